@@ -1,0 +1,3 @@
+// What every layer shares: the three units of time and the refusal numbers.
+pub mod refusal;
+pub mod units;

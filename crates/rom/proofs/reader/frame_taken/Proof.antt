@@ -1,0 +1,27 @@
+-- `rom::reader::frame_taken` meets its contract. Assumes nothing.
+use borrow.Author.Needs.{needs}
+use native.Mathlib.Omega.{arith}
+use Rattle.rom.proofs.Taking.{take-refused, take-room, take-cut, take-whole}
+use Rattle.rom.proofs.reader.frame_taken.Statement.{statement}
+use Rattle.rom.proofs.reader.frame_taken.Tie as tie
+
+pub frame-taken-spec : {M : Type 1} → statement M
+frame-taken-spec =
+    tie.close
+    (tie.spec
+    (λ c κs. search needs)
+    (λ c κs. search needs)
+    (λ c. take-refused _ _ _ (c .before .before .image-fault .ensures) (c .no-frame .ensures) (c .before .if1 .taken))
+    (λ c κs.
+      let a = c .before .before .before .args in
+      omega (arith, take-room 6 (a .image .now) (a .bit) (c .before .image-fault .ensures) (c .if1 .left)))
+    (λ c. search needs)
+    (λ c. search needs)
+    (λ c κs. search needs)
+    (λ c.
+      let b = c .before .before .before in
+      take-cut _ _ _ (b .before .before .image-fault .ensures) (b .before .if1 .left) (b .frame-at .ensures) (c .no-frame2 .ensures) (c .before .enum-told .given .1))
+    (λ c κs. search needs)
+    (λ c.
+      let b = c .before .before .before .before in
+      take-whole _ _ _ (b .before .before .image-fault .ensures) (b .before .if1 .left) (b .frame-at .ensures) (c .before .before .taken .given .1) (c .bit-count .ensures)))

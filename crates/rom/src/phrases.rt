@@ -1,0 +1,1 @@
+// The phrase walk over an image.
