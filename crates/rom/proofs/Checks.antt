@@ -1,6 +1,6 @@
 -- The checks of a call at a place of an image.
 -- Assumes nothing.
-use mathlib.Core.Path.{_≡_, refl, ap, _∙_}
+use mathlib.Core.Path.{_≡_, refl, sym, _∙_}
 use mathlib.Core.Bool.{Bool, true, false, _&&_}
 use mathlib.Core.List.{List}
 use Prim.Native.Nat.{ℕ, _*_, _/_, _≤_, _<_}
@@ -19,15 +19,19 @@ valid-length s h = go (ltb 0 (length s)) refl (leb (length s) imageLimit) refl h
     go true p false q h = let z : _≡_ {A = ℕ} 0 1 = cc in absurd (omega arith)
     go false p b q h = let z : _≡_ {A = ℕ} 0 1 = cc in absurd (omega arith)
 
-module _ (s : List ℕ) (beyond : Bool) where
-  -- a call without a fault has a valid image and a place in it
-  pub no-fault : imageFault s beyond ≡ 0 → (imageValid s ≡ true) × (beyond ≡ false)
-  no-fault h = go (imageValid s) refl beyond refl h
+module _ (s : List ℕ) {b : Bool} {n : ℕ} (e : n ≡ imageFault s b) (h : n ≡ 0) where
+  -- a call without a fault has a valid image and a place that is not beyond its end
+  pub no-fault : (imageValid s ≡ true) × (b ≡ false)
+  no-fault = go (imageValid s) refl b refl (sym e ∙ h)
     where
-      go : (v : Bool) → imageValid s ≡ v → (b : Bool) → beyond ≡ b → imageFault s beyond ≡ 0 → (imageValid s ≡ true) × (beyond ≡ false)
-      go true e false d h = (e, d)
-      go true e true d h = absurd (omega (arith, rw (e, d) at h))
-      go false e b d h = absurd (omega (arith, rw e at h))
+      go : (v : Bool) → imageValid s ≡ v → (d : Bool) → b ≡ d → imageFault s b ≡ 0 → (imageValid s ≡ true) × (b ≡ false)
+      go true p false q f = (p, q)
+      go true p true q f = absurd (omega (arith, rw (p, q) at f))
+      go false p d q f = absurd (omega (arith, rw p at f))
+
+-- the same where the place is an address
+pub in-image : (s : List ℕ) (a : ℕ) {n : ℕ} → n ≡ imageFault s (leb (length s) a) → n ≡ 0 → (a < length s) × (length s ≤ imageLimit)
+in-image s a e h = let f = no-fault s e h in (leb-false _ _ (f .1), valid-length s (f .0) .1)
 
 -- a bit is at or past the end exactly when the byte that holds it is
 pub bit-beyond : (s : List ℕ) (bit : ℕ) → leb (length s) (bit / 8) ≡ leb (8 * length s) bit

@@ -2,3 +2,10 @@ pub mod Fields
 pub mod Checks
 pub mod Decoding
 pub mod Taking
+pub mod Encoding
+pub mod CentralLaw
+pub mod ItemLaws
+pub mod FrameCode
+pub mod Walking
+pub mod Theorems
+pub mod WalkAnswers

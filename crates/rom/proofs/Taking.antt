@@ -2,13 +2,11 @@
 -- Assumes nothing.
 use mathlib.Core.Path.{_≡_, sym, ap, _∙_}
 use mathlib.Core.List.{List}
-use Prim.Native.Nat.{ℕ, _*_, _/_, _≤_, _<_}
-use native.Mathlib.Omega.{arith}
-use borrow.Author.Tests.{leb-false}
+use Prim.Native.Nat.{ℕ, _*_, _/_}
 use lib.Dec.{leb}
 use lib.ListN.{length}
 use Rattle.base.proofs.Faults.{answered, refused-with}
-use Rattle.rom.specs.Bits.{imageLimit, imageFault}
+use Rattle.rom.specs.Bits.{imageFault}
 use Rattle.rom.specs.Frames.{bitCount}
 use Rattle.rom.specs.Reader.{frameAt, noFrame, takenOf, frameTakenOf}
 use Rattle.rom.specs.declared.frames.Frame.{Frame}
@@ -16,7 +14,7 @@ use Rattle.rom.specs.declared.frames.Found.the-variants.{Some}
 use Rattle.rom.specs.declared.reader.Taken.{Taken}
 use Rattle.rom.specs.declared.reader.Taken.the-variants.{Whole, Cut}
 use Rattle.rom.specs.declared.reader.FrameTaken.{FrameTaken}
-use Rattle.rom.proofs.Checks.{valid-length, no-fault, bit-beyond}
+use Rattle.rom.proofs.Checks.{bit-beyond}
 
 module _ (P : ℕ) (s : List ℕ) (bit : ℕ) {n : ℕ} (e : n ≡ imageFault s (leb (length s) (bit / 8))) where
   fault-is : n ≡ imageFault s (leb (8 * length s) bit)
@@ -26,19 +24,12 @@ module _ (P : ℕ) (s : List ℕ) (bit : ℕ) {n : ℕ} (e : n ≡ imageFault s 
   unfolding frameTakenOf
   take-refused a h = refused-with fault-is noFrame _ h a
 
-  module _ (h : n ≡ 0) where
-    -- the bit lies in a valid image
-    pub take-room : (bit < 8 * length s) × (length s ≤ imageLimit)
-    take-room =
-        let f = no-fault s (leb (8 * length s) bit) (rw fault-is at h) in
-        (leb-false _ _ (f .1), valid-length s (f .0) .1)
+  module _ (h : n ≡ 0) {t : Taken} (a : t ≡ frameAt P s bit) where
+    pub take-cut : {r : FrameTaken} → r ≡ noFrame 10 → t ≡ Cut → r ≡ frameTakenOf P s bit
+    unfolding frameTakenOf
+    take-cut b c = answered fault-is noFrame _ h (b ∙ ap (takenOf P) (sym c ∙ a))
 
-    module _ {t : Taken} (a : t ≡ frameAt P s bit) where
-      pub take-cut : {r : FrameTaken} → r ≡ noFrame 10 → t ≡ Cut → r ≡ frameTakenOf P s bit
-      unfolding frameTakenOf
-      take-cut b c = answered fault-is noFrame _ h (b ∙ ap (takenOf P) (sym c ∙ a))
-
-      pub take-whole : {f : Frame} {next w : ℕ} → t ≡ Whole f next → w ≡ bitCount P f
-          → record { refusal = 0; frame = Some f; bits = w } ≡ frameTakenOf P s bit
-      unfolding frameTakenOf
-      take-whole {f} {next} c b = answered fault-is noFrame _ h (rw b (ap (takenOf P) (sym c ∙ a)))
+    pub take-whole : {f : Frame} {next w : ℕ} → t ≡ Whole f next → w ≡ bitCount P f
+        → record { refusal = 0; frame = Some f; bits = w } ≡ frameTakenOf P s bit
+    unfolding frameTakenOf
+    take-whole {f} {next} c b = answered fault-is noFrame _ h (rw b (ap (takenOf P) (sym c ∙ a)))

@@ -1,3 +1,6 @@
 pub mod Bits
 pub mod Frames
 pub mod Reader
+pub mod Items
+pub mod Phrases
+pub mod Theorems

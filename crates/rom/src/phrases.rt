@@ -1,1 +1,100 @@
-// The phrase walk over an image.
+// The phrase walk over an image: its numbers, and the part of the image that the phrase takes.
+ghost use mathlib.Core.Path.{_≡_};
+ghost use Prim.Native.Nat.{_*_, _≤_};
+ghost use lib.ListN.{length};
+ghost use Rattle.rom.specs.Bits.{imageLimit};
+ghost use Rattle.rom.specs.Frames.{pitchBits};
+ghost use Rattle.rom.specs.Phrases.{refused, accepted, framesFrom, walkedOver, walkOf, phraseOf};
+use base::refusal::NO_PHRASE;
+use base::refusal::TAKEN;
+use base::units::Frames;
+use base::units::Intervals;
+use base::units::Samples;
+use crate::bits::image_fault;
+use crate::frames::is_stop;
+use crate::frames::PITCH_BITS;
+use crate::reader::frame_at;
+use crate::reader::Taken;
+
+// What a walk answers: the refusal number, and the phrase's bits, frames and duration. The number of frames is the duration
+// in frames.
+pub struct Walked {
+    pub refusal: u8,
+    pub bits: usize,
+    pub frames: Frames,
+    pub intervals: Intervals,
+    pub samples: Samples,
+}
+
+fn refuse(refusal: u8) -> Walked
+    ensures { λ r. ⌜ r ≡ refused refusal ⌝ }
+{
+    Walked {
+        refusal,
+        bits: 0,
+        frames: Frames(0),
+        intervals: Intervals(0),
+        samples: Samples(0),
+    }
+}
+
+fn accept(bits: usize, count: u32) -> Walked
+    ensures { λ r. ⌜ r ≡ accepted bits count ⌝ }
+{
+    let frames = Frames(count);
+    let intervals = frames.intervals();
+    let samples = intervals.samples();
+    Walked {
+        refusal: TAKEN,
+        bits,
+        frames,
+        intervals,
+        samples,
+    }
+}
+
+// The frames from bit `start` on, through the first stop.
+fn walk_from(image: &[u8], start: usize, pitch_bits: usize) -> Walked
+    requires { ⌜ («pitch_bits» ≤ 8) × (length (now image) ≤ imageLimit) × (start ≤ 8 * length (now image)) ⌝ }
+    ensures { λ r. ⌜ r ≡ walkedOver «pitch_bits» (framesFrom «pitch_bits» (now (image .entry)) start (8 * length (now (image .entry)))) ⌝ }
+{
+    let mut at = start;
+    let mut count: u32 = 0;
+    loop {
+        let taken = frame_at(image, at, pitch_bits);
+        let Taken::Whole(f, next) = taken else {
+            return refuse(NO_PHRASE);
+        };
+        at = next;
+        count += 1;
+        if is_stop(f) {
+            return accept(at - start, count);
+        }
+    }
+}
+
+// Operation: the walk from a byte address.
+pub fn walk(image: &[u8], address: usize) -> Walked
+    ensures { λ r. ⌜ r ≡ walkOf pitchBits (now (image .entry)) address ⌝ }
+{
+    let fault = image_fault(image, image.len() <= address);
+    if fault != TAKEN {
+        return refuse(fault);
+    }
+    walk_from(image, 8 * address, PITCH_BITS)
+}
+
+// Operation: the part of the image that the phrase at a byte address takes, empty where the walk is refused.
+pub fn phrase(image: &[u8], address: usize) -> &[u8]
+    ensures { λ r. ⌜ now r ≡ phraseOf pitchBits (now (image .entry)) address ⌝ }
+{
+    let walked = walk(image, address);
+    let refusal = walked.refusal;
+    let bits = walked.bits;
+    if refusal == TAKEN {
+        let end = address + (bits + 7) / 8;
+        &image[address..end]
+    } else {
+        &image[0..0]
+    }
+}

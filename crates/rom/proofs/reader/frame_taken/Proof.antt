@@ -1,7 +1,9 @@
 -- `rom::reader::frame_taken` meets its contract. Assumes nothing.
 use borrow.Author.Needs.{needs}
+use Prim.Native.Nat.{_/_}
 use native.Mathlib.Omega.{arith}
-use Rattle.rom.proofs.Taking.{take-refused, take-room, take-cut, take-whole}
+use Rattle.rom.proofs.Checks.{in-image}
+use Rattle.rom.proofs.Taking.{take-refused, take-cut, take-whole}
 use Rattle.rom.proofs.reader.frame_taken.Statement.{statement}
 use Rattle.rom.proofs.reader.frame_taken.Tie as tie
 
@@ -14,7 +16,7 @@ frame-taken-spec =
     (λ c. take-refused _ _ _ (c .before .before .image-fault .ensures) (c .no-frame .ensures) (c .before .if1 .taken))
     (λ c κs.
       let a = c .before .before .before .args in
-      omega (arith, take-room 6 (a .image .now) (a .bit) (c .before .image-fault .ensures) (c .if1 .left)))
+      omega (arith, in-image (a .image .now) (a .bit / 8) (c .before .image-fault .ensures) (c .if1 .left)))
     (λ c. search needs)
     (λ c. search needs)
     (λ c κs. search needs)

@@ -1,0 +1,77 @@
+-- The theorems of the walk.
+-- Assumes nothing.
+use mathlib.Core.Path.{_≡_, refl, sym, ap, _∙_}
+use mathlib.Core.Logic.{_↔_}
+use mathlib.Core.Bool.{Bool, true, false}
+use mathlib.Core.List.{List, [], _∷_}
+use Prim.Native.Nat.{ℕ, _+_, _*_, _≤_, _<_}
+use native.Mathlib.Omega.{arith}
+use borrow.Author.Tests.{lt-leb, eqb-true, eqb-false}
+use lib.Dec.{leb, eqb}
+use lib.ListN.{length, length-append}
+use Rattle.rom.specs.Bits.{imageValid, imageFault}
+use Rattle.rom.specs.Frames.{bitsOf}
+use Rattle.rom.specs.Items.{Ended, last, more, hasStop, bitsAll}
+use Rattle.rom.specs.Phrases.{frameCode, PhraseAt, framesAt, refused, walkedOver, walkOf}
+use Rattle.rom.specs.Theorems.{WalkAccepts, WalkCounts, WalkRefuses, PhraseUnique, FramesRead}
+use Rattle.rom.specs.declared.frames.Frame.{Frame}
+use Rattle.rom.specs.declared.phrases.Walked.{Walked}
+use Rattle.rom.proofs.Checks.{no-fault, in-image}
+use Rattle.rom.proofs.Encoding.{begins-room}
+use Rattle.rom.proofs.FrameCode.{four-bits, frames-lawful}
+use Rattle.rom.proofs.ItemLaws.{phrase-found, there-read}
+
+module _ (P : ℕ) (s : List ℕ) (a : ℕ) where
+  -- a phrase begins within the image
+  phrase-inside : {fs : List Frame} → PhraseAt P s a fs → a < length s
+  phrase-inside {fs} p = go fs (p .ended) (begins-room s (8 * a) (bitsAll (frameCode P) fs) (p .encoded .begins))
+    where
+      go : (gs : List Frame) → Ended (frameCode P) gs → 8 * a + length (bitsAll (frameCode P) gs) ≤ 8 * length s → a < length s
+      go (g ∷ gs) d room = omega (arith, length-append (bitsOf P g) (bitsAll (frameCode P) gs), four-bits P g)
+
+  module _ (inside : a < length s) where
+    found : (fs : List Frame) → PhraseAt P s a fs ↔ ((framesAt P s a ≡ fs) × (hasStop (frameCode P) fs ≡ true))
+    found = phrase-found (frameCode P) s _ (frames-lawful P s) (8 * a) (omega arith)
+
+    walk-is : imageValid s ≡ true → walkOf P s a ≡ walkedOver P (framesAt P s a)
+    unfolding walkOf
+    walk-is v = rw (v, lt-leb (length s) a inside)
+
+  -- an accepted walk had no fault and found a stop
+  walk-taken : walkOf P s a .refusal ≡ 0 → (imageFault s (leb (length s) a) ≡ 0) × (hasStop (frameCode P) (framesAt P s a) ≡ true)
+  unfolding walkOf
+  walk-taken h = go (eqb (imageFault s (leb (length s) a)) 0) refl (hasStop (frameCode P) (framesAt P s a)) refl h
+    where
+      go : (f : Bool) → eqb (imageFault s (leb (length s) a)) 0 ≡ f → (t : Bool) → hasStop (frameCode P) (framesAt P s a) ≡ t
+          → walkOf P s a .refusal ≡ 0 → (imageFault s (leb (length s) a) ≡ 0) × (hasStop (frameCode P) (framesAt P s a) ≡ true)
+      go true f true t h = (eqb-true _ _ f, t)
+      go true f false t h = absurd (omega (arith, rw (f, t) at h))
+      go false f t e h = absurd (eqb-false _ _ f (rw f at h))
+
+  phrase-of-walk : walkOf P s a .refusal ≡ 0 → (imageValid s ≡ true) × ((fs : List Frame) × PhraseAt P s a fs)
+  phrase-of-walk h =
+      let t = walk-taken h in
+      (no-fault s {b = leb (length s) a} refl (t .0) .0, (framesAt P s a, found (in-image s a refl (t .0) .0) _ .1 (refl, t .1)))
+
+pub walk-counts : WalkCounts
+walk-counts P s a fs v p =
+    let f = found P s a (phrase-inside P s a p) fs .0 p in
+    walk-is P s a (phrase-inside P s a p) v ∙ rw (f .0, f .1)
+
+pub walk-accepts : WalkAccepts
+walk-accepts P s a = (phrase-of-walk P s a, λ h. ap (λ (w : Walked). w .refusal) (walk-counts P s a (h .1 .0) (h .0) (h .1 .1)))
+
+pub walk-refuses : WalkRefuses
+walk-refuses P s a v inside n = walk-is P s a inside v ∙ go (hasStop (frameCode P) (framesAt P s a)) refl
+  where
+    go : (b : Bool) → hasStop (frameCode P) (framesAt P s a) ≡ b → walkedOver P (framesAt P s a) ≡ refused 10
+    go true t = absurd (n _ (found P s a inside _ .1 (refl, t)))
+    go false t = rw t
+
+pub phrase-unique : PhraseUnique
+phrase-unique P s a fs gs p q =
+    let found = found P s a (phrase-inside P s a p) in
+    sym (found fs .0 p .0) ∙ found gs .0 q .0
+
+pub frames-read : FramesRead
+frames-read P s a fs inside = there-read (frameCode P) s _ (frames-lawful P s) (8 * a) (omega arith) fs

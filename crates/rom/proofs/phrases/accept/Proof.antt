@@ -1,0 +1,13 @@
+-- `rom::phrases::accept` meets its contract. Assumes nothing.
+use borrow.Author.Needs.{needs}
+use native.Mathlib.Omega.{arith}
+use Rattle.rom.proofs.phrases.accept.Statement.{statement}
+use Rattle.rom.proofs.phrases.accept.Tie as tie
+
+pub accept-spec : {M : Type 1} → statement M
+accept-spec =
+    tie.close
+    (tie.spec
+    (λ c κs. search needs)
+    (λ c κs. rw (c .intervals .ensures) (search needs))
+    (λ c. rw (c .samples .ensures, c .before .intervals .ensures)))

@@ -1,0 +1,69 @@
+-- Items that are read one after another from the bits of an image, through the first that is a stop: frames of any pitch
+-- width, with or without a prefix.
+use mathlib.Core.Path.{_≡_}
+use mathlib.Core.Bool.{Bool, true, false, cond, _||_}
+use mathlib.Core.List.{List, [], _∷_, _++_}
+use Prim.Native.Nat.{ℕ, zero, suc, _≤_}
+use lib.ListN.{length}
+use Rattle.rom.specs.Bits.{Begins}
+
+-- items with bits; a proper item is one whose bits say which it is
+pub record Code : Type 1 where
+  pub Item : Type 0
+  pub Proper : Item → Type 0
+  pub bits : Item → List ℕ
+  pub stops : Item → Bool
+
+-- what a reader answers at a bit: a whole item and the bit after it, or that the bits end
+pub data Read (A : Type 0) : Type 0 where
+  whole : A → ℕ → Read A
+  cut : Read A
+
+module _ (C : Code) where
+  -- the bits of a list of items, one after another
+  abbrev pub bitsAll : List (C .Item) → List ℕ
+  bitsAll [] = []
+  bitsAll (f ∷ fs) = C .bits f ++ bitsAll fs
+
+  abbrev pub AllProper : List (C .Item) → Type 0
+  AllProper [] = Unit {0}
+  AllProper (f ∷ fs) = C .Proper f × AllProper fs
+
+  -- the image's bits from bit `at` on begin with the bits of the items fs
+  pub record Encoded (s : List ℕ) (at : ℕ) (fs : List (C .Item)) : Type 0 where
+    pub proper : AllProper fs
+    pub begins : Begins s at (bitsAll fs)
+
+  -- the last of a list and only the last is a stop
+  pub data Ended : List (C .Item) → Type 0 where
+    last : {f : C .Item} → C .stops f ≡ true → Ended (f ∷ [])
+    more : {f : C .Item} {fs : List (C .Item)} → C .stops f ≡ false → Ended fs → Ended (f ∷ fs)
+
+  -- a phrase, the items fs, begins at bit `at`
+  pub record Phrase (s : List ℕ) (at : ℕ) (fs : List (C .Item)) : Type 0 where
+    pub encoded : Encoded s at fs
+    pub ended : Ended fs
+
+  -- fs is the longest list with whose bits the image's bits from bit `at` on begin
+  pub record Longest (s : List ℕ) (at : ℕ) (fs : List (C .Item)) : Type 0 where
+    pub encoded : Encoded s at fs
+    pub longest : (gs : List (C .Item)) → Encoded s at gs → length gs ≤ length fs
+
+  -- the items there: those of the phrase or, where none begins, those of the longest list
+  pub data There (s : List ℕ) (at : ℕ) (fs : List (C .Item)) : Type 0 where
+    phrase : Phrase s at fs → There s at fs
+    none : ((gs : List (C .Item)) → Phrase s at gs → ⊥) → Longest s at fs → There s at fs
+
+  -- the items that a reader's answer begins: none, the stop alone, or the item and those from the bit after it on
+  abbrev pub itemsOf : Read (C .Item) → (ℕ → List (C .Item)) → List (C .Item)
+  itemsOf cut after = []
+  itemsOf (whole f next) after = f ∷ cond (C .stops f) [] (after next)
+
+  -- the items read from bit `at` on, through the first stop or up to where the bits end; at most n
+  unfoldable pub itemsFrom : (ℕ → Read (C .Item)) → ℕ → ℕ → List (C .Item)
+  itemsFrom read at zero = []
+  itemsFrom read at (suc n) = itemsOf (read at) (λ next. itemsFrom read next n)
+
+  abbrev pub hasStop : List (C .Item) → Bool
+  hasStop [] = false
+  hasStop (f ∷ fs) = C .stops f || hasStop fs

@@ -1,0 +1,50 @@
+-- What is proved of the reader and the walk, for every image, address and width P of the pitch field. The file of the same
+-- name in proofs/ has the proofs.
+use mathlib.Core.Path.{_≡_}
+use mathlib.Core.Logic.{_↔_}
+use mathlib.Core.Bool.{true}
+use mathlib.Core.List.{List}
+use Prim.Native.Nat.{ℕ, _+_, _<_}
+use lib.ListN.{length}
+use Rattle.base.specs.Refusals.{TAKEN, NO-PHRASE}
+use Rattle.rom.specs.Bits.{imageValid, Begins}
+use Rattle.rom.specs.Frames.{Proper, bitsOf}
+use Rattle.rom.specs.Reader.{frameAt}
+use Rattle.rom.specs.Items.{bitsAll}
+use Rattle.rom.specs.Phrases.{frameCode, PhraseAt, FramesThere, framesAt, accepted, refused, walkOf}
+use Rattle.rom.specs.declared.frames.Frame.{Frame}
+use Rattle.rom.specs.declared.reader.Taken.the-variants.{Whole}
+
+-- The reader's central law: it answers a whole frame f, and `next`, exactly when f is proper, the image's bits there begin
+-- with the bits that the table of kinds gives f, and `next` is the bit after them.
+abbrev pub CentralLaw : Type 0
+CentralLaw =
+    (P : ℕ) (s : List ℕ) (at : ℕ) (f : Frame) (next : ℕ)
+    → (frameAt P s at ≡ Whole f next) ↔ (Proper P f × Begins s at (bitsOf P f) × (next ≡ at + length (bitsOf P f)))
+
+-- The walk's number is 0 exactly when the image is valid and a phrase begins at the address.
+abbrev pub WalkAccepts : Type 0
+WalkAccepts =
+    (P : ℕ) (s : List ℕ) (a : ℕ)
+    → (walkOf P s a .refusal ≡ TAKEN) ↔ ((imageValid s ≡ true) × ((fs : List Frame) × PhraseAt P s a fs))
+
+-- The walk's frames are as many as the phrase's, its bits the sum of their bits.
+abbrev pub WalkCounts : Type 0
+WalkCounts =
+    (P : ℕ) (s : List ℕ) (a : ℕ) (fs : List Frame) → imageValid s ≡ true → PhraseAt P s a fs
+    → walkOf P s a ≡ accepted (length (bitsAll (frameCode P) fs)) (length fs)
+
+-- Where no phrase begins at an address of a valid image, the walk is refused with 10.
+abbrev pub WalkRefuses : Type 0
+WalkRefuses =
+    (P : ℕ) (s : List ℕ) (a : ℕ) → imageValid s ≡ true → a < length s → ((fs : List Frame) → PhraseAt P s a fs → ⊥)
+    → walkOf P s a ≡ refused NO-PHRASE
+
+-- No second phrase begins at an address: two have the same kinds and indexes.
+abbrev pub PhraseUnique : Type 0
+PhraseUnique = (P : ℕ) (s : List ℕ) (a : ℕ) (fs gs : List Frame) → PhraseAt P s a fs → PhraseAt P s a gs → fs ≡ gs
+
+-- The frames that the reader finds from an address of the image on are the frames there, and no others are: those of the
+-- phrase or, where none begins, those of the longest list.
+abbrev pub FramesRead : Type 0
+FramesRead = (P : ℕ) (s : List ℕ) (a : ℕ) (fs : List Frame) → a < length s → FramesThere P s a fs ↔ (framesAt P s a ≡ fs)
