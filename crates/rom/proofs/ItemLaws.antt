@@ -148,6 +148,6 @@ module _ (C : Code) (s : List ℕ) (read : ℕ → Read (C .Item)) (lawful : Law
             (record {
               encoded = read-encoded (8 * length s) at held;
               longest = λ gs g.
-                let b = beginning gs (8 * length s) at (enough at g) g t in
-                omega (arith, length-append gs (b .0), ap length (b .1));
+                  let b = beginning gs (8 * length s) at (enough at g) g t in
+                  omega (arith, length-append gs (b .0), ap length (b .1));
             })

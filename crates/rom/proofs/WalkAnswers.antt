@@ -32,9 +32,10 @@ module _ (P : ℕ) (s : List ℕ) (a : ℕ) {w : Walked} where
     pub phrase-room : w .refusal ≡ 0 → (8 * a + w .bits ≤ 8 * length s) × (length s ≤ imageLimit)
     phrase-room h =
         let p = walk-accepts P s a .0 (rw e at h) in
-        let fs = p .1 .0 in
-        (rw (e, walk-counts P s a fs (p .0) (p .1 .1)) (begins-room s (8 * a) (bitsAll (frameCode P) fs) (p .1 .1 .encoded .begins)),
-        valid-length s (p .0) .1)
+        let fs = p .1 .0 in (
+          rw (e, walk-counts P s a fs (p .0) (p .1 .1)) (begins-room s (8 * a) (bitsAll (frameCode P) fs) (p .1 .1 .encoded .begins)),
+          valid-length s (p .0) .1,
+        )
 
     pub phrase-taken : w .refusal ≡ 0 → take (a + (w .bits + 7) / 8 - a) (drop a s) ≡ phraseOf P s a
     unfolding phraseOf

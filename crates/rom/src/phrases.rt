@@ -5,16 +5,16 @@ ghost use lib.ListN.{length};
 ghost use Rattle.rom.specs.Bits.{imageLimit};
 ghost use Rattle.rom.specs.Frames.{pitchBits};
 ghost use Rattle.rom.specs.Phrases.{refused, accepted, framesFrom, walkedOver, walkOf, phraseOf};
+use crate::bits::image_fault;
+use crate::frames::PITCH_BITS;
+use crate::frames::is_stop;
+use crate::reader::Taken;
+use crate::reader::frame_at;
 use base::refusal::NO_PHRASE;
 use base::refusal::TAKEN;
 use base::units::Frames;
 use base::units::Intervals;
 use base::units::Samples;
-use crate::bits::image_fault;
-use crate::frames::is_stop;
-use crate::frames::PITCH_BITS;
-use crate::reader::frame_at;
-use crate::reader::Taken;
 
 // What a walk answers: the refusal number, and the phrase's bits, frames and duration. The number of frames is the duration
 // in frames.

@@ -5,14 +5,14 @@ ghost use Prim.Native.Nat.{_-_, _≤_, _<_, _^_};
 ghost use lib.ListN.{length};
 ghost use Rattle.rom.specs.Frames.{pitchBits};
 ghost use Rattle.rom.specs.Reader.{unvoicedAt, voicedAt, decoded, frameAt, noFrame, frameTakenOf};
-use base::refusal::NO_PHRASE;
-use base::refusal::TAKEN;
 use crate::bits::field_at;
 use crate::bits::image_fault;
-use crate::frames::bit_count;
 use crate::frames::Found;
 use crate::frames::Frame;
 use crate::frames::PITCH_BITS;
+use crate::frames::bit_count;
+use base::refusal::NO_PHRASE;
+use base::refusal::TAKEN;
 
 // A frame is taken whole, with the bit after it, or the bits end inside it or before it.
 pub enum Taken {

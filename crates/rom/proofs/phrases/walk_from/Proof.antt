@@ -44,17 +44,17 @@ walk-from-spec =
     (λ c. search needs)
     (λ c κs. search needs)
     (λ c.
-      let g = c .before .enum-told .given .1 in
-      let e = c .before .before .before .frame-at .ensures in
-      c .refuse .ensures ∙ come-cut (c .before .before .before .before .loop .inv) (cc))
+    let g = c .before .enum-told .given .1 in
+    let e = c .before .before .before .frame-at .ensures in
+    c .refuse .ensures ∙ come-cut (c .before .before .before .before .loop .inv) (cc))
     (λ c. search needs)
     (λ c κs. search needs)
     (λ c. omega (arith, taken-next (c .before .before .before)))
     (λ c κs. search needs)
     (λ c.
-      let b = c .before .before .before .before in
-      c .accept .ensures ∙ come-stop (b .before .before .before .loop .inv) (taken-is b) (cc))
+    let b = c .before .before .before .before in
+    c .accept .ensures ∙ come-stop (b .before .before .before .loop .inv) (taken-is b) (cc))
     (λ c. omega (arith, taken-next (c .before .before .before)))
     (λ c.
-      let b = c .before .before .before in
-      come-on (b .before .before .before .loop .inv) (taken-is b) (cc)))
+    let b = c .before .before .before in
+    come-on (b .before .before .before .loop .inv) (taken-is b) (cc)))

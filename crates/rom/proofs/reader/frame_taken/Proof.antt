@@ -15,15 +15,15 @@ frame-taken-spec =
     (λ c κs. search needs)
     (λ c. take-refused _ _ _ (c .before .before .image-fault .ensures) (c .no-frame .ensures) (c .before .if1 .taken))
     (λ c κs.
-      let a = c .before .before .before .args in
-      omega (arith, in-image (a .image .now) (a .bit / 8) (c .before .image-fault .ensures) (c .if1 .left)))
+    let a = c .before .before .before .args in
+    omega (arith, in-image (a .image .now) (a .bit / 8) (c .before .image-fault .ensures) (c .if1 .left)))
     (λ c. search needs)
     (λ c. search needs)
     (λ c κs. search needs)
     (λ c.
-      let b = c .before .before .before in
-      take-cut _ _ _ (b .before .before .image-fault .ensures) (b .before .if1 .left) (b .frame-at .ensures) (c .no-frame2 .ensures) (c .before .enum-told .given .1))
+    let b = c .before .before .before in
+    take-cut _ _ _ (b .before .before .image-fault .ensures) (b .before .if1 .left) (b .frame-at .ensures) (c .no-frame2 .ensures) (c .before .enum-told .given .1))
     (λ c κs. search needs)
     (λ c.
-      let b = c .before .before .before .before in
-      take-whole _ _ _ (b .before .before .image-fault .ensures) (b .before .if1 .left) (b .frame-at .ensures) (c .before .before .taken .given .1) (c .bit-count .ensures)))
+    let b = c .before .before .before .before in
+    take-whole _ _ _ (b .before .before .image-fault .ensures) (b .before .if1 .left) (b .frame-at .ensures) (c .before .before .taken .given .1) (c .bit-count .ensures)))
