@@ -12,7 +12,7 @@ use lib.Dec.{eqb, leb}
 use lib.ListN.{length}
 use Rattle.rom.specs.Bits.{field, Begins}
 use Rattle.rom.specs.Frames.{fieldsOf, OfKind, Proper, bitsOf, bitCount}
-use Rattle.rom.specs.Reader.{decoded, frameAt}
+use Rattle.rom.specs.Reader.{silenceCode, stopCode, decoded, frameAt}
 use Rattle.rom.specs.Theorems.{CentralLaw}
 use Rattle.rom.specs.declared.frames.Frame.{Frame}
 use Rattle.rom.specs.declared.frames.Frame.the-variants.{Silence, Stop, Repeat, Unvoiced, Voiced}
@@ -47,9 +47,9 @@ module _ (P : ℕ) (s : List ℕ) (at : ℕ) where
       let e = field-lt s at 4 in
       let r = field-lt s (at + 4) 1 in
       let k0 : field s (at + 5 + P + 0) 5 ≡ field s (at + 5 + P) 5 = rw add-zero in
-      by-test Good (eqb (field s at 4) 0)
+      by-test Good (eqb (field s at 4) silenceCode)
       (λ t. good Silence (λ room. (rw add-zero (eqb-true _ _ t), room)) tt)
-      (λ n0. by-test Good (eqb (field s at 4) 15)
+      (λ n0. by-test Good (eqb (field s at 4) stopCode)
       (λ t. good Stop (λ room. (rw add-zero (eqb-true _ _ t), room)) tt)
       (λ n15. by-test Good (eqb (field s (at + 4) 1) 1)
       (λ t. good (Repeat _ _) (λ room. head [] refl (eqb-true _ _ t) refl (omega arith)) (omega (arith, eqb-false)))

@@ -8,34 +8,34 @@ use native.Mathlib.Omega.{arith}
 use lib.ListN.{length}
 use Rattle.rom.specs.Bits.{field}
 use Rattle.rom.specs.Frames.{bitCount}
-use Rattle.rom.specs.Reader.{unvoicedAt, voicedAt, decoded, frameAt}
+use Rattle.rom.specs.Reader.{silenceCode, stopCode, unvoicedAt, voicedAt, decoded, frameAt}
 use Rattle.rom.specs.declared.frames.Frame.{Frame}
 use Rattle.rom.specs.declared.frames.Frame.the-variants.{Silence, Stop, Repeat, Unvoiced, Voiced}
 use Rattle.rom.specs.declared.reader.Taken.the-variants.{Whole, Cut}
 
 module _ (P : ℕ) (s : List ℕ) (at : ℕ) where
   module _ {e : ℕ} (he : e ≡ field s at 4) where
-    pub silence-is : e ≡ 0 → Silence ≡ decoded P s at
+    pub silence-is : e ≡ silenceCode → Silence ≡ decoded P s at
     unfolding decoded
     silence-is h = simp (← he, h)
 
-    pub stop-is : e ≡ 15 → Stop ≡ decoded P s at
+    pub stop-is : e ≡ stopCode → Stop ≡ decoded P s at
     unfolding decoded
     stop-is h = simp (← he, h)
 
-    module _ {r p : ℕ} (h0 : e ≡ 0 → ⊥) (h15 : e ≡ 15 → ⊥) (hr : r ≡ field s (at + 4) 1) (hp : p ≡ field s (at + 5) P) where
+    module _ {r p : ℕ} (h0 : e ≡ silenceCode → ⊥) (hs : e ≡ stopCode → ⊥) (hr : r ≡ field s (at + 4) 1) (hp : p ≡ field s (at + 5) P) where
       pub repeat-is : r ≡ 1 → Repeat e p ≡ decoded P s at
       unfolding decoded
-      repeat-is h = simp (← he, ne-eqb e 0 h0, ne-eqb e 15 h15, ← hr, h, ← hp)
+      repeat-is h = simp (← he, ne-eqb e silenceCode h0, ne-eqb e stopCode hs, ← hr, h, ← hp)
 
       module _ {f : Frame} (h1 : r ≡ 1 → ⊥) where
         pub unvoiced-is : p ≡ 0 → f ≡ unvoicedAt s (at + 5 + P) e → f ≡ decoded P s at
         unfolding decoded
-        unvoiced-is h hf = simp (hf, ← he, ne-eqb e 0 h0, ne-eqb e 15 h15, ← hr, ne-eqb r 1 h1, ← hp, h)
+        unvoiced-is h hf = simp (hf, ← he, ne-eqb e silenceCode h0, ne-eqb e stopCode hs, ← hr, ne-eqb r 1 h1, ← hp, h)
 
         pub voiced-is : (p ≡ 0 → ⊥) → f ≡ voicedAt s (at + 5 + P) e p → f ≡ decoded P s at
         unfolding decoded
-        voiced-is h hf = simp (hf, ← he, ne-eqb e 0 h0, ne-eqb e 15 h15, ← hr, ne-eqb r 1 h1, ← hp, ne-eqb p 0 h)
+        voiced-is h hf = simp (hf, ← he, ne-eqb e silenceCode h0, ne-eqb e stopCode hs, ← hr, ne-eqb r 1 h1, ← hp, ne-eqb p 0 h)
 
   module _ {f : Frame} {n : ℕ} (hf : f ≡ decoded P s at) (hn : n ≡ bitCount P f) where
     pub whole-is : at + n ≤ 8 * length s → Whole f (at + n) ≡ frameAt P s at

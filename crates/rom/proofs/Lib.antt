@@ -9,3 +9,4 @@ pub mod FrameCode
 pub mod Walking
 pub mod Theorems
 pub mod WalkAnswers
+pub mod Prefixed

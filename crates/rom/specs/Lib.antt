@@ -3,4 +3,5 @@ pub mod Frames
 pub mod Reader
 pub mod Items
 pub mod Phrases
+pub mod Prefix
 pub mod Theorems

@@ -25,13 +25,20 @@ voicedAt s at e p =
     Voiced e p (field s at 5) (field s (at + 5) 5) (field s (at + 10) 4) (field s (at + 14) 4) (field s (at + 18) 4)
     (field s (at + 22) 4) (field s (at + 26) 4) (field s (at + 30) 3) (field s (at + 33) 3) (field s (at + 36) 3)
 
+-- the energies by which the reader tells a silence and a stop
+abbrev pub silenceCode : ℕ
+silenceCode = 0
+
+abbrev pub stopCode : ℕ
+stopCode = 15
+
 -- the frame in the bits from bit `at` on, as if zeros followed the image's last
 unfoldable pub decoded : ℕ → List ℕ → ℕ → Frame
 decoded P s at =
     let e = field s at 4 in
     let p = field s (at + 5) P in
-    cond (eqb e 0) Silence
-    (cond (eqb e 15) Stop
+    cond (eqb e silenceCode) Silence
+    (cond (eqb e stopCode) Stop
     (cond (eqb (field s (at + 4) 1) 1) (Repeat e p)
     (cond (eqb p 0) (unvoicedAt s (at + 5 + P) e) (voicedAt s (at + 5 + P) e p))))
 

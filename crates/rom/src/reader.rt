@@ -14,6 +14,11 @@ use crate::frames::bit_count;
 use base::refusal::NO_PHRASE;
 use base::refusal::TAKEN;
 
+// The energies of a silence and a stop.
+const SILENCE_CODE: u8 = 0;
+
+const STOP_CODE: u8 = 15;
+
 // A frame is taken whole, with the bit after it, or the bits end inside it or before it.
 pub enum Taken {
     Whole(Frame, usize),
@@ -61,10 +66,10 @@ fn decode(s: &[u8], at: usize, pitch_bits: usize) -> Frame
     ensures { λ r. ⌜ r ≡ decoded «pitch_bits» (now (s .entry)) at ⌝ }
 {
     let energy = field_at(s, at, 4);
-    if energy == 0 {
+    if energy == SILENCE_CODE {
         return Frame::Silence;
     }
-    if energy == 15 {
+    if energy == STOP_CODE {
         return Frame::Stop;
     }
     let repeat = field_at(s, at + 4, 1);

@@ -1,0 +1,55 @@
+-- Frames behind a prefix of any width are items whose reader obeys the central law.
+-- Assumes nothing.
+use mathlib.Core.Path.{_≡_, refl, sym, ap, _∙_}
+use mathlib.Core.List.{List, _++_}
+use Prim.Native.Nat.{ℕ, _+_, _≤_, _<_}
+use native.Mathlib.Omega.{arith}
+use lib.ListN.{length, length-append}
+use Rattle.rom.specs.Bits.{digits, Begins}
+use Rattle.rom.specs.Frames.{bitsOf}
+use Rattle.rom.specs.Items.{whole}
+use Rattle.rom.specs.Prefix.{prefixedCode, withPrefix, readPrefixed}
+use Rattle.rom.specs.declared.frames.Frame.{Frame}
+use Rattle.rom.specs.declared.reader.Taken.{Taken}
+use Rattle.rom.specs.declared.reader.Taken.the-variants.{Whole, Cut}
+use Rattle.rom.proofs.Fields.{field-lt}
+use Rattle.rom.proofs.Encoding.{length-digits, digits-field, field-digits, begins-room, begins-join, begins-split}
+use Rattle.rom.proofs.CentralLaw.{central-law}
+use Rattle.rom.proofs.FrameCode.{four-bits}
+use Rattle.rom.proofs.ItemLaws.{Lawful}
+
+is-whole : {q : ℕ} {t : Taken} {i : ℕ × Frame} {n : ℕ} → withPrefix q t ≡ whole i n → (q ≡ i .0) × (t ≡ Whole (i .1) n)
+is-whole {q} {t = Whole g m} {i} {n} e =
+    let p : (q, g) ≡ i = cc in
+    let r : m ≡ n = cc in
+    (ap (λ x. x .0) p, ap (λ x. Whole (x .1) m) p ∙ ap (Whole (i .1)) r)
+is-whole {t = Cut} e = let z : _≡_ {A = ℕ} 0 1 = cc in absurd (omega arith)
+
+module _ (Q P : ℕ) where
+  length-prefixed : (i : ℕ × Frame) → length (prefixedCode Q P .bits i) ≡ Q + length (bitsOf P (i .1))
+  length-prefixed i = omega (arith, length-append (digits Q (i .0)) (bitsOf P (i .1)), length-digits Q (i .0))
+
+  module _ (s : List ℕ) (at : ℕ) (i : ℕ × Frame) (n : ℕ) where
+    sound : readPrefixed Q P s at ≡ whole i n
+        → prefixedCode Q P .Proper i × Begins s at (prefixedCode Q P .bits i) × (n ≡ at + length (prefixedCode Q P .bits i))
+    sound e =
+        let b = is-whole e in
+        let r = central-law P s (at + Q) (i .1) n .0 (b .1) in
+        let d = field-digits s at Q (omega (arith, begins-room s (at + Q) (bitsOf P (i .1)) (r .1))) in (
+          (rw (b .0) at (field-lt s at Q), r .0),
+          begins-join s at (digits Q (i .0)) (bitsOf P (i .1)) (rw (b .0) at d) (rw (length-digits Q (i .0)) (r .1)),
+          omega (arith, r .2, length-prefixed i),
+        )
+
+    complete : prefixedCode Q P .Proper i → Begins s at (prefixedCode Q P .bits i) → n ≡ at + length (prefixedCode Q P .bits i)
+        → readPrefixed Q P s at ≡ whole i n
+    complete k h e =
+        let b = begins-split s at (digits Q (i .0)) (bitsOf P (i .1)) h in
+        let l : n ≡ at + Q + length (bitsOf P (i .1)) = omega (arith, length-prefixed i) in
+        rw (central-law P s (at + Q) (i .1) n .1 (k .1, rw (length-digits Q (i .0)) at (b .1), l), digits-field s at Q (i .0) (k .0) (b .0))
+
+  pub prefixed-lawful : (s : List ℕ) → Lawful (prefixedCode Q P) s (readPrefixed Q P s)
+  prefixed-lawful s = record {
+    law = λ at i n. (sound s at i n, λ h. complete s at i n (h .0) (h .1) (h .2));
+    some = λ i. omega (arith, length-prefixed i, four-bits P (i .1));
+  }

@@ -1,0 +1,29 @@
+-- Frames that each follow a prefix of Q bits, as the rate bits of the TMS5220C: items as plain frames are, so that the
+-- theorems of the walk hold of them too. P is the width of the pitch field.
+use mathlib.Core.List.{List, _++_}
+use Prim.Native.Nat.{ℕ, _+_, _^_, _<_}
+use Rattle.rom.specs.Bits.{field, digits}
+use Rattle.rom.specs.Frames.{bitsOf, Proper, isStop}
+use Rattle.rom.specs.Reader.{frameAt}
+use Rattle.rom.specs.Items.{Code, Read, whole, cut}
+use Rattle.rom.specs.declared.frames.Frame.{Frame}
+use Rattle.rom.specs.declared.reader.Taken.{Taken}
+use Rattle.rom.specs.declared.reader.Taken.the-variants.{Whole, Cut}
+
+-- a prefix's value and its frame
+abbrev pub prefixedCode : ℕ → ℕ → Code
+prefixedCode Q P = record {
+  Item = ℕ × Frame;
+  Proper = λ i. (i .0 < 2 ^ Q) × Proper P (i .1);
+  bits = λ i. digits Q (i .0) ++ bitsOf P (i .1);
+  stops = λ i. isStop (i .1);
+}
+
+-- the reader's answer after a prefix of value q
+abbrev pub withPrefix : ℕ → Taken → Read (ℕ × Frame)
+withPrefix q (Whole f next) = whole (q, f) next
+withPrefix q Cut = cut
+
+-- the reader of a prefix and its frame
+abbrev pub readPrefixed : ℕ → ℕ → List ℕ → ℕ → Read (ℕ × Frame)
+readPrefixed Q P s at = withPrefix (field s at Q) (frameAt P s (at + Q))
