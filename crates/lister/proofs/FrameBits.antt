@@ -1,0 +1,40 @@
+-- The bit after a frame fits a usize.
+-- Assumes nothing.
+use mathlib.Core.Path.{_≡_, refl}
+use mathlib.Core.Bool.{Bool, true, false}
+use mathlib.Core.List.{List}
+use Prim.Native.Nat.{ℕ, _+_, _*_, _^_, _≤_, _<_}
+use native.Mathlib.Omega.{arith}
+use borrow.Author.Tests.{leb-false}
+use lib.Dec.{leb}
+use lib.ListN.{length}
+use Rattle.rom.specs.Bits.{imageValid}
+use Rattle.rom.specs.Frames.{pitchBits, bitCount}
+use Rattle.rom.specs.Reader.{frameAt, takenOf, frameTakenOf}
+use Rattle.rom.specs.declared.frames.Frame.{Frame}
+use Rattle.rom.specs.declared.frames.Frame.the-variants.{Silence, Stop, Repeat, Unvoiced, Voiced}
+use Rattle.rom.specs.declared.reader.Taken.{Taken}
+use Rattle.rom.specs.declared.reader.Taken.the-variants.{Whole, Cut}
+use Rattle.rom.proofs.Checks.{valid-length}
+
+bits-most : (f : Frame) → bitCount pitchBits f ≤ 50
+bits-most Silence = omega arith
+bits-most Stop = omega arith
+bits-most (Repeat e p) = omega arith
+bits-most (Unvoiced e k1 k2 k3 k4) = omega arith
+bits-most (Voiced e p k1 k2 k3 k4 k5 k6 k7 k8 k9 k10) = omega arith
+
+taken-most : (t : Taken) → takenOf pitchBits t .bits ≤ 50
+taken-most (Whole f next) = bits-most f
+taken-most Cut = omega arith
+
+pub next-fits : (s : List ℕ) (at : ℕ) → at < 2 ^ 64 → at + frameTakenOf pitchBits s at .bits < 2 ^ 64
+unfolding frameTakenOf
+next-fits s at h = go (imageValid s) refl (leb (8 * length s) at) refl
+  where
+    go : (v : Bool) → imageValid s ≡ v → (b : Bool) → leb (8 * length s) at ≡ b → at + frameTakenOf pitchBits s at .bits < 2 ^ 64
+    go false p b q = rw p (omega arith)
+    go true p true q = rw (p, q) (omega arith)
+    go true p false q =
+        let h = valid-length s p in
+        rw (p, q) (omega (arith, taken-most (frameAt pitchBits s at), leb-false (8 * length s) at q))

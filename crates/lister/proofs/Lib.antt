@@ -1,0 +1,9 @@
+pub mod Texts
+pub mod Decimals
+pub mod LineLaws
+pub mod FrameBits
+pub mod Copies
+pub mod PhraseLines
+pub mod ListingLaws
+pub mod Filling
+pub mod Theorems

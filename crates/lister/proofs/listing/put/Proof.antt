@@ -1,0 +1,55 @@
+-- `lister::listing::put` meets its contract. Assumes nothing.
+use borrow.Author.Needs.{needs}
+use mathlib.Core.Path.{_≡_, ap, _∙_}
+use mathlib.Core.List.{_++_}
+use Prim.Native.Nat.{_-_, _+_, _≤_}
+use native.Mathlib.Omega.{arith}
+use lib.ListN.{length, take, length-take}
+use Rattle.lister.specs.Text.{contents}
+use Rattle.lister.proofs.Copies.{Copied, copied-none, copied-more, take-taken}
+use Rattle.lister.proofs.listing.put.Statement.{statement}
+use Rattle.lister.proofs.listing.put.Tie as tie
+
+abbrev Inv-loop : tie.InvT-loop
+Inv-loop out₀ at n bytes i₀ out i = Copied out₀ at n bytes out i × (n ≤ 80)
+
+abbrev μ-loop : tie.MeasureT-loop
+μ-loop out₀ at n bytes i₀ out i = n - i
+
+loop-holds : tie.Need-loop-holds Inv-loop μ-loop
+unfolding contents
+loop-holds c =
+    let s = c .before .before .before in
+    let b : length (s .args .t .bytes) ≡ 80 = search needs in
+    let n : c .before .size .result ≤ 80 = rw (c .before .size .ensures, length-take) (omega arith) in
+    (copied-none _ _ _ _ (omega arith) (omega (arith, s .pre)), n)
+
+returns : tie.Need-returns Inv-loop μ-loop
+unfolding contents
+returns c =
+    let l = c .before .loop in
+    let e : l .i ≡ c .before .before .before .size .result = omega (arith, l .inv .0 .passed) in
+    let a = c .before .before .before .before .before .args in (
+      omega arith,
+      (rw e at (l .inv .0 .copied))
+          ∙ ap (λ m. take (a .at) (a .out .now) ++ m)
+          (ap (λ k. take k (a .t .bytes)) (c .before .before .before .size .ensures) ∙ take-taken (a .t .length) (a .t .bytes)),
+    )
+
+pub put-spec : {M : Type 1} → statement M
+put-spec =
+    tie.close
+    (tie.spec
+    Inv-loop
+    μ-loop
+    (λ c κs. search needs)
+    loop-holds
+    (λ c. search needs)
+    (λ c. search needs)
+    (λ c. search needs)
+    (λ c. search needs)
+    (λ c. search needs)
+    (λ c. (copied-more (c .before .loop .inv .0) (c .loop-test .taken), c .before .loop .inv .1))
+    (λ c. search needs)
+    (λ c. search needs)
+    returns)

@@ -1,0 +1,12 @@
+-- `lister::text::empty` meets its contract. Assumes nothing.
+use mathlib.Core.Path.{refl}
+use Rattle.lister.specs.Text.{contents}
+use Rattle.lister.proofs.text.empty.Statement.{statement}
+use Rattle.lister.proofs.text.empty.Tie as tie
+
+returns : tie.Need-returns
+unfolding contents
+returns c = refl
+
+pub empty-spec : {M : Type 1} → statement M
+empty-spec = tie.close (tie.spec returns)

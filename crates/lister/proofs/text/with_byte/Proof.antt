@@ -1,0 +1,19 @@
+-- `lister::text::with_byte` meets its contract. Assumes nothing.
+use borrow.Author.Needs.{needs}
+use Rattle.lister.specs.Text.{contents}
+use Rattle.lister.proofs.Texts.{byte-appended, byte-dropped}
+use Rattle.lister.proofs.text.with_byte.Statement.{statement}
+use Rattle.lister.proofs.text.with_byte.Tie as tie
+
+returns : tie.Need-returns
+unfolding contents
+returns c = byte-appended (c .before .before .args .t) (search needs) _ (c .before .if1 .taken)
+
+pub with-byte-spec : {M : Type 1} → statement M
+with-byte-spec =
+    tie.close
+    (tie.spec
+    (λ c. search needs)
+    (λ c. search needs)
+    returns
+    (λ c. byte-dropped (c .before .args .t) (search needs) _ (c .if1 .left)))
