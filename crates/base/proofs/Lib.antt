@@ -1,1 +1,4 @@
+pub mod Booleans
 pub mod Faults
+pub mod Range
+pub mod Steps

@@ -1,2 +1,4 @@
+pub mod Range
 pub mod Refusals
+pub mod Steps
 pub mod Units

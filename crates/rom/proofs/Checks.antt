@@ -1,33 +1,29 @@
 -- The checks of a call at a place of an image.
 -- Assumes nothing.
 use mathlib.Core.Path.{_≡_, refl, sym, _∙_}
-use mathlib.Core.Bool.{Bool, true, false, _&&_}
+use mathlib.Core.Bool.{Bool, true, false, not}
 use mathlib.Core.List.{List}
 use Prim.Native.Nat.{ℕ, _*_, _/_, _≤_, _<_}
 use native.Mathlib.Omega.{arith}
-use borrow.Author.Tests.{le-leb, lt-leb, leb-true, ltb-true, leb-false}
+use borrow.Author.Tests.{le-leb, lt-leb, leb-true, ltb-true, leb-false, not-false}
 use lib.Dec.{leb, ltb}
 use lib.ListN.{length}
+use Rattle.base.proofs.Booleans.{both-true}
+use Rattle.base.proofs.Faults.{none-first}
 use Rattle.rom.specs.Bits.{imageLimit, imageValid, imageFault}
 
 -- what an image without fault 3 is
 pub valid-length : (s : List ℕ) → imageValid s ≡ true → (0 < length s) × (length s ≤ imageLimit)
-valid-length s h = go (ltb 0 (length s)) refl (leb (length s) imageLimit) refl h
-  where
-    go : (a : Bool) → ltb 0 (length s) ≡ a → (b : Bool) → leb (length s) imageLimit ≡ b → (a && b) ≡ true → (0 < length s) × (length s ≤ imageLimit)
-    go true p true q h = (ltb-true _ _ p, leb-true _ _ q)
-    go true p false q h = let z : _≡_ {A = ℕ} 0 1 = cc in absurd (omega arith)
-    go false p b q h = let z : _≡_ {A = ℕ} 0 1 = cc in absurd (omega arith)
+valid-length s h =
+    let t = both-true (ltb 0 (length s)) (leb (length s) imageLimit) h in
+    (ltb-true _ _ (t .0), leb-true _ _ (t .1))
 
 module _ (s : List ℕ) {b : Bool} {n : ℕ} (e : n ≡ imageFault s b) (h : n ≡ 0) where
   -- a call without a fault has a valid image and a place that is not beyond its end
   pub no-fault : (imageValid s ≡ true) × (b ≡ false)
-  no-fault = go (imageValid s) refl b refl (sym e ∙ h)
-    where
-      go : (v : Bool) → imageValid s ≡ v → (d : Bool) → b ≡ d → imageFault s b ≡ 0 → (imageValid s ≡ true) × (b ≡ false)
-      go true p false q f = (p, q)
-      go true p true q f = absurd (omega (arith, rw (p, q) at f))
-      go false p d q f = absurd (omega (arith, rw p at f))
+  no-fault =
+      let i = none-first (not (imageValid s)) 2 _ (sym e ∙ h) in
+      (not-false _ (i .0), none-first b 1 0 (i .1) .0)
 
 -- the same where the place is an address
 pub in-image : (s : List ℕ) (a : ℕ) {n : ℕ} → n ≡ imageFault s (leb (length s) a) → n ≡ 0 → (a < length s) × (length s ≤ imageLimit)

@@ -69,8 +69,11 @@ pub fn is_stop(f: Frame) -> bool
     }
 }
 
-// Kind, energy, pitch and K1 to K10 as numbers: 0 for an index that the kind does not carry, all 0 for no frame.
-pub fn numbers(f: Found) -> [u8; 13]
+// Kind, energy, pitch and K1 to K10 as numbers.
+pub type Numbers = [u8; 13];
+
+// The numbers of a frame: 0 for an index that the kind does not carry, all 0 for no frame.
+pub fn numbers(f: Found) -> Numbers
     ensures { λ r. ⌜ r ≡ numbersOf f ⌝ }
 {
     let Found::Some(f) = f else {
