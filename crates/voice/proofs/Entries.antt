@@ -1,0 +1,38 @@
+-- Which entries of a table are in range.
+-- Assumes nothing.
+use mathlib.Core.Path.{_≡_}
+use mathlib.Core.Logic.{⊎-elim}
+use mathlib.Core.Bool.{Bool, true, false, cond, _&&_}
+use mathlib.Core.List.{List}
+use Prim.Native.Nat.{ℕ, zero, suc, _+_, _≤_, _<_}
+use native.Mathlib.Nat.{eq-or-lt-of-le}
+use native.Mathlib.Numerals.{add-one}
+use native.Mathlib.Omega.{arith}
+use borrow.Author.Tests.{eqb-true, leb-true}
+use lib.Dec.{eqb, leb}
+use Rattle.base.proofs.Booleans.{both-true}
+use Rattle.voice.specs.Layout.{entryAt}
+use Rattle.voice.specs.Check.{unsignedValid, entryValid, entriesValid}
+use Rattle.voice.specs.declared.layout.Table.{Table}
+
+module _ (N : ℕ) (file : List ℕ) (t : Table) where
+  -- one entry more
+  pub entries-suc : (n : ℕ) → entriesValid N file t (n + 1) ≡ (entriesValid N file t n && entryValid t n (entryAt N file t n))
+  unfolding entriesValid
+  entries-suc n = rw (add-one n)
+
+  -- each of a table's first n entries is in range where all are
+  pub each-valid : (n : ℕ) → entriesValid N file t n ≡ true → (i : ℕ) → i < n → entryValid t i (entryAt N file t i) ≡ true
+  unfolding entriesValid
+  each-valid zero e i h = absurd (omega arith)
+  each-valid (suc n) e i h =
+      let b = both-true (entriesValid N file t n) (entryValid t n (entryAt N file t n)) e in
+      ⊎-elim (λ p. rw p (b .1)) (λ l. each-valid n (b .0) i l) (eq-or-lt-of-le {n = i} {m = n} (omega arith))
+
+-- an energy or a pitch in range is at most 1023
+pub unsigned-most : (least i w : ℕ) → unsignedValid least i w ≡ true → w ≤ 1023
+unsigned-most least i w e = go (eqb i 0) e
+  where
+    go : (first : Bool) → cond first (eqb w 0) (leb least w && leb w 1023) ≡ true → w ≤ 1023
+    go true h = omega (arith, eqb-true w 0 h)
+    go false h = leb-true w 1023 (both-true (leb least w) (leb w 1023) h .1)

@@ -1,0 +1,7 @@
+pub mod Entries
+pub mod Numbers
+pub mod Order
+pub mod Places
+pub mod Pulses
+pub mod Signed
+pub mod Valid

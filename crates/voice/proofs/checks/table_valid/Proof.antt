@@ -1,0 +1,47 @@
+-- `voice::checks::table_valid` meets its contract. Assumes nothing.
+use mathlib.Core.Path.{_≡_}
+use Prim.Native.Nat.{_≤_, _-_}
+use native.Mathlib.Omega.{arith}
+use borrow.Author.Needs.{needs}
+use Rattle.voice.specs.Layout.{entries}
+use Rattle.voice.specs.Check.{entriesValid}
+use Rattle.voice.proofs.Entries.{entries-suc}
+use Rattle.voice.proofs.checks.table_valid.Statement.{statement}
+use Rattle.voice.proofs.checks.table_valid.Tie as tie
+
+abbrev Inv-loop : tie.InvT-loop
+Inv-loop file pitches table n valid₀ i₀ valid i = (i ≤ n) × (valid ≡ entriesValid pitches file table i)
+
+abbrev μ-loop : tie.MeasureT-loop
+μ-loop file pitches table n valid₀ i₀ valid i = n - i
+
+loop-holds : tie.Need-loop-holds Inv-loop μ-loop
+unfolding entriesValid
+loop-holds c = search needs
+
+loop-again : tie.Need-loop-again Inv-loop μ-loop
+loop-again c =
+    let b = c .before .before .before in
+    let a = b .before .before .before .args in
+    (search needs, rw (entries-suc (a .pitches) (a .file .now) (a .table) (b .loop .i), ← b .loop .inv .1, ← c .before .entry-at .ensures, ← c .entry-valid .ensures))
+
+returns : tie.Need-returns Inv-loop μ-loop
+returns c =
+    let a = c .before .before .before .before .args in
+    let h : c .before .loop .i ≡ entries (a .pitches) (a .table) = omega arith in
+    rw h at (c .before .loop .inv .1)
+
+pub table-valid-spec : {M : Type 1} → statement M
+table-valid-spec =
+    tie.close
+    (tie.spec
+    Inv-loop
+    μ-loop
+    (λ c κs. search needs)
+    loop-holds
+    (λ c κs. search needs)
+    (λ c κs. search needs)
+    (λ c. search needs)
+    (λ c. search needs)
+    loop-again
+    returns)

@@ -1,0 +1,21 @@
+-- `voice::checks::voice_fault` meets its contract. Assumes nothing.
+use borrow.Author.Needs.{needs}
+use Rattle.voice.proofs.Order.{size-first, length-first, version-first, value-first, pulse-first, no-fault}
+use Rattle.voice.proofs.checks.voice_fault.Statement.{statement}
+use Rattle.voice.proofs.checks.voice_fault.Tie as tie
+
+pub voice-fault-spec : {M : Type 1} → statement M
+voice-fault-spec =
+    tie.close
+    (tie.spec
+    (λ c κs. search needs)
+    (λ c. search (size-first))
+    (λ c κs. search needs)
+    (λ c. search (length-first))
+    (λ c κs. search needs)
+    (λ c. search (version-first))
+    (λ c κs. search needs)
+    (λ c. search (value-first))
+    (λ c κs. search needs)
+    (λ c. search (pulse-first))
+    (λ c. search (no-fault)))

@@ -1,0 +1,18 @@
+-- `voice::layout::table_start` meets its contract. Assumes nothing.
+use borrow.Author.Needs.{needs}
+use native.Mathlib.Omega.{arith}
+use Rattle.voice.proofs.layout.table_start.Statement.{statement}
+use Rattle.voice.proofs.layout.table_start.Tie as tie
+
+pub table-start-spec : {M : Type 1} → statement M
+table-start-spec =
+    tie.close
+    (tie.spec
+    (λ c. search needs)
+    (λ c. search needs)
+    (λ c. search needs)
+    (λ c. search needs)
+    (λ c. search needs)
+    (λ c. search needs)
+    (λ c. search needs)
+    (λ c. rw (c .enum-told3 .given .1) (omega arith)))

@@ -1,0 +1,20 @@
+-- `voice::lookup::k_value` meets its contract. Assumes nothing.
+use borrow.Author.Needs.{needs}
+use native.Mathlib.Omega.{arith}
+use Rattle.voice.specs.Layout.{kCounts}
+use Rattle.base.proofs.Range.{back}
+use Rattle.voice.proofs.Places.{total-take-le}
+use Rattle.voice.proofs.lookup.k_value.Statement.{statement}
+use Rattle.voice.proofs.lookup.k_value.Tie as tie
+
+pub k-value-spec : {M : Type 1} → statement M
+k-value-spec =
+    tie.close
+    (tie.spec
+    (λ c κs. search needs)
+    (λ c. omega (arith, total-take-le kCounts (c .before .before .args .number)))
+    (λ c κs. search needs)
+    (λ c κs. search needs)
+    (λ c.
+    let k = c .signed-word in
+    rw (back (k .result) (k .ok), k .ensures, c .before .entry-at .ensures, c .before .before .k-begin .ensures)))

@@ -1,0 +1,23 @@
+-- `voice::lookup::pulse_value` meets its contract. Assumes nothing.
+use borrow.Author.Needs.{needs}
+use Rattle.base.proofs.Range.{back}
+use Rattle.voice.proofs.Places.{pulse-within, pulse-past}
+use Rattle.voice.proofs.lookup.pulse_value.Statement.{statement}
+use Rattle.voice.proofs.lookup.pulse_value.Tie as tie
+
+pub pulse-value-spec : {M : Type 1} → statement M
+pulse-value-spec =
+    tie.close
+    (tie.spec
+    (λ c κs. search needs)
+    (λ c κs. search needs)
+    (λ c. search needs)
+    (λ c. search needs)
+    (λ c. search needs)
+    (λ c κs. search needs)
+    (λ c κs. search needs)
+    (λ c.
+    let b = c .before .before .before in
+    rw (back (c .signed-byte .result) (c .signed-byte .ok))
+    (pulse-within _ _ (b .before .count-at .ensures) (b .byte-at .ensures) (c .before .before .if1 .taken) (c .before .byte-at2 .ensures) (c .signed-byte .ensures)))
+    (λ c. pulse-past _ _ (c .before .before .count-at .ensures) (c .before .byte-at .ensures) (c .if1 .left)))

@@ -1,0 +1,136 @@
+// The check of a voice file, with the number of pitches and the version as parameters.
+ghost use mathlib.Core.Path.{_≡_};
+ghost use Rattle.voice.specs.Layout.{pitches};
+ghost use Rattle.voice.specs.Check.{version, sizeFault, lengthFault, versionFault, unsignedValid, kValid, entryValid, tableValid, valueFault, pulseFault, voiceFault};
+use crate::layout::PITCHES;
+use crate::layout::Table;
+use crate::layout::byte_at;
+use crate::layout::count_at;
+use crate::layout::entries;
+use crate::layout::entry_at;
+use crate::layout::length_with;
+use crate::layout::signed_word;
+use crate::layout::word_at;
+use base::refusal::TAKEN;
+use base::refusal::VOICE_LENGTH;
+use base::refusal::VOICE_PULSE;
+use base::refusal::VOICE_SIZE;
+use base::refusal::VOICE_VALUE;
+use base::refusal::VOICE_VERSION;
+
+// The version of the TMS5220 and TMS5200.
+pub const VERSION: u8 = 1;
+
+// The most pulses.
+pub const PULSE_LIMIT: u8 = 64;
+
+// Whether the file has too few bytes or too many.
+fn size_fault(file: &[u8], pitches: u8) -> bool
+    ensures { λ r. ⌜ r ≡ sizeFault pitches (now (file .entry)) ⌝ }
+{
+    let before = count_at(pitches) + 1;
+    (file.len() < before + 1) | (before + (PULSE_LIMIT as usize) < file.len())
+}
+
+// Whether the length field is not the size minus 2.
+fn length_fault(file: &[u8]) -> bool
+    ensures { λ r. ⌜ r ≡ lengthFault (now (file .entry)) ⌝ }
+{
+    word_at(file, 0) as usize + 2 != file.len()
+}
+
+// Whether the version byte is another.
+fn version_fault(file: &[u8], version: u8) -> bool
+    ensures { λ r. ⌜ r ≡ versionFault version (now (file .entry)) ⌝ }
+{
+    byte_at(file, 2) != version
+}
+
+// Whether an entry of a table of unsigned words is in range: `least` to 1023, but the first 0.
+fn unsigned_valid(least: u16, index: u16, word: u16) -> bool
+    ensures { λ r. ⌜ r ≡ unsignedValid least index word ⌝ }
+{
+    if index == 0 {
+        word == 0
+    } else {
+        (least <= word) & (word <= 1023)
+    }
+}
+
+// Whether a K value is in range.
+fn k_valid(word: u16) -> bool
+    ensures { λ r. ⌜ r ≡ kValid word ⌝ }
+{
+    let k = signed_word(word);
+    !(k < -512) & !(511 < k)
+}
+
+// Whether an entry of a table is in range.
+fn entry_valid(table: Table, index: u16, word: u16) -> bool
+    ensures { λ r. ⌜ r ≡ entryValid table index word ⌝ }
+{
+    match table {
+        Table::Energy => unsigned_valid(0, index, word),
+        Table::Pitch => unsigned_valid(1, index, word),
+        Table::K => k_valid(word),
+    }
+}
+
+// Whether every entry of a table is in range.
+fn table_valid(file: &[u8], pitches: u8, table: Table) -> bool
+    ensures { λ r. ⌜ r ≡ tableValid pitches (now (file .entry)) table ⌝ }
+{
+    let n = entries(pitches, table);
+    let mut valid = true;
+    for i in 0..n {
+        valid = valid & entry_valid(table, i, entry_at(file, pitches, table, i));
+    }
+    valid
+}
+
+// Whether a table value is out of range.
+fn value_fault(file: &[u8], pitches: u8) -> bool
+    ensures { λ r. ⌜ r ≡ valueFault pitches (now (file .entry)) ⌝ }
+{
+    !(table_valid(file, pitches, Table::Energy)
+        & table_valid(file, pitches, Table::Pitch)
+        & table_valid(file, pitches, Table::K))
+}
+
+// Whether the pulse count is 0, over 64, or not that of the length field.
+fn pulse_fault(file: &[u8], pitches: u8) -> bool
+    ensures { λ r. ⌜ r ≡ pulseFault pitches (now (file .entry)) ⌝ }
+{
+    let count = byte_at(file, count_at(pitches));
+    let length = word_at(file, 0);
+    (count == 0) | (PULSE_LIMIT < count) | (length != length_with(pitches, count))
+}
+
+// The first fault of a file with that many pitches and that version; 0 without one.
+pub fn voice_fault(file: &[u8], pitches: u8, version: u8) -> u8
+    ensures { λ r. ⌜ r ≡ voiceFault pitches version (now (file .entry)) ⌝ }
+{
+    if size_fault(file, pitches) {
+        return VOICE_SIZE;
+    }
+    if length_fault(file) {
+        return VOICE_LENGTH;
+    }
+    if version_fault(file, version) {
+        return VOICE_VERSION;
+    }
+    if value_fault(file, pitches) {
+        return VOICE_VALUE;
+    }
+    if pulse_fault(file, pitches) {
+        return VOICE_PULSE;
+    }
+    TAKEN
+}
+
+// Operation: the check of a voice file.
+pub fn voice_check(file: &[u8]) -> u8
+    ensures { λ r. ⌜ r ≡ voiceFault pitches version (now (file .entry)) ⌝ }
+{
+    voice_fault(file, PITCHES, VERSION)
+}
