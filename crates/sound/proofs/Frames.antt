@@ -1,0 +1,67 @@
+-- The targets of a frame of the table, from a valid voice file, are in range.
+-- Assumes nothing.
+use mathlib.Core.List.{List, [], _∷_}
+use mathlib.Core.Path.{_≡_, refl}
+use Prim.Native.Nat.{ℕ, zero, suc}
+use native.Mathlib.Omega.{arith}
+use lib.IntN.{ℤ, pos}
+use lib.ListN.{length, getD}
+use Rattle.base.specs.Range.{Between}
+use Rattle.rom.specs.Frames.{pitchBits, Proper}
+use Rattle.rom.specs.declared.frames.Frame.{Frame}
+use Rattle.rom.specs.declared.frames.Frame.the-variants.{Silence, Stop, Repeat, Unvoiced, Voiced}
+use Rattle.voice.specs.Layout.{pitches}
+use Rattle.voice.specs.Valid.{InRange}
+use Rattle.sound.specs.Ranges.{TenBetween}
+use Rattle.sound.specs.Targets.{targetsOf}
+use Rattle.sound.specs.declared.params.Params.{Params}
+use Rattle.sound.proofs.Validity.{ParamsBetween}
+
+-- each number of a list is in -n..p
+abbrev Each : ℕ → ℕ → List ℤ → Type 0
+Each n p [] = Unit {0}
+Each n p (z ∷ zs) = Between n p z × Each n p zs
+
+ten : {n p : ℕ} (zs : List ℤ) → length zs ≡ 10 → Each n p zs → TenBetween n p zs
+ten {n} {p} zs e h = record { size = e; each = at zs h }
+  where
+    at : (zs : List ℤ) → Each n p zs → (i : ℕ) → Between n p (getD zs i (pos 0))
+    at [] h i = omega arith
+    at (z ∷ zs) h zero = h .0
+    at (z ∷ zs) h (suc i) = at zs (h .1) i
+
+nought : {n p : ℕ} → Between n p (pos 0)
+nought = omega arith
+
+-- `fit` is, field by field, that an index fits its width; energy 15 is excluded by the kind
+pub targets-ranges : {file : List ℕ} → InRange pitches file → (f : Frame) → Proper pitchBits f → {old : Params} → ParamsBetween 1023 512 511 old
+    → ParamsBetween 1023 512 511 (targetsOf pitches file f old)
+targets-ranges v Silence proper h = record { energy = nought; pitch = h .pitch; k = h .k }
+targets-ranges v Stop proper h = record { energy = nought; pitch = h .pitch; k = h .k }
+targets-ranges v (Repeat e p) (fit, kind) h = record { energy = v .energy e (kind .1); pitch = v .pitch p (fit .1 .1 .0); k = h .k }
+targets-ranges v (Unvoiced e k1 k2 k3 k4) (fit, kind) h =
+    let f1 = fit .1 .1 .1 in
+    let f2 = f1 .1 in
+    let f3 = f2 .1 in
+    let f4 = f3 .1 in
+    record {
+      energy = v .energy e (kind .1);
+      pitch = nought;
+      k = ten _ refl (v .k 0 k1 (f1 .0), (v .k 1 k2 (f2 .0), (v .k 2 k3 (f3 .0), (v .k 3 k4 (f4 .0), (nought, (nought, (nought, (nought, (nought, (nought, tt))))))))));
+    }
+targets-ranges v (Voiced e p k1 k2 k3 k4 k5 k6 k7 k8 k9 k10) (fit, kind) h =
+    let f1 = fit .1 .1 .1 in
+    let f2 = f1 .1 in
+    let f3 = f2 .1 in
+    let f4 = f3 .1 in
+    let f5 = f4 .1 in
+    let f6 = f5 .1 in
+    let f7 = f6 .1 in
+    let f8 = f7 .1 in
+    let f9 = f8 .1 in
+    let f10 = f9 .1 in
+    record {
+      energy = v .energy e (kind .1);
+      pitch = v .pitch p (fit .1 .1 .0);
+      k = ten _ refl (v .k 0 k1 (f1 .0), (v .k 1 k2 (f2 .0), (v .k 2 k3 (f3 .0), (v .k 3 k4 (f4 .0), (v .k 4 k5 (f5 .0), (v .k 5 k6 (f6 .0), (v .k 6 k7 (f7 .0), (v .k 7 k8 (f8 .0), (v .k 8 k9 (f9 .0), (v .k 9 k10 (f10 .0), tt))))))))));
+    }

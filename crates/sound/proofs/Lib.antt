@@ -1,0 +1,9 @@
+pub mod Elements
+pub mod Frames
+pub mod Lattice
+pub mod Laws
+pub mod Ranges
+pub mod Samples
+pub mod Taps
+pub mod Validity
+pub mod Zipped

@@ -1,0 +1,22 @@
+-- `sound::filter::memory_of` meets its contract. Assumes nothing.
+use borrow.Author.Needs.{needs}
+use mathlib.Core.Path.{_∙_}
+use Rattle.base.proofs.Range.{fits, read, back, sum}
+use Rattle.sound.proofs.Ranges.{scale-is}
+use Rattle.sound.proofs.filter.memory_of.Statement.{statement}
+use Rattle.sound.proofs.filter.memory_of.Tie as tie
+
+add-clamp : tie.Need-add-clamp
+add-clamp c =
+    let h = c .before .pre in
+    let q = scale-is (h .0) (h .2) (c .scale .ensures) .1 in
+    simp (read tt (h .1), read tt q) (fits tt (sum (h .1) q))
+
+returns : tie.Need-returns
+returns c =
+    let h = c .before .before .pre in
+    let s = scale-is (h .0) (h .2) (c .before .scale .ensures) in
+    back _ (c .clamp .ok) ∙ (rw (s .0) at (simp (read tt (h .1), read tt (s .1), read tt (sum (h .1) (s .1))) at (c .clamp .ensures)))
+
+pub memory-of-spec : {M : Type 1} → statement M
+memory-of-spec = tie.close (tie.spec (λ c κs. search needs) add-clamp (λ c κs. search needs) returns)

@@ -1,0 +1,16 @@
+-- `sound::filter::scale` meets its contract. Assumes nothing.
+use Rattle.base.proofs.Range.{fits, read, product, quotient}
+use Rattle.sound.proofs.filter.scale.Statement.{statement}
+use Rattle.sound.proofs.filter.scale.Tie as tie
+
+returns : tie.Need-returns
+returns c =
+    let p = product (c .pre .0) (c .pre .1) in
+    simp (read tt (c .pre .0), read tt (c .pre .1), read tt p, read tt (quotient p 512))
+
+pub scale-spec : {M : Type 1} → statement M
+scale-spec =
+    tie.close
+    (tie.spec
+    (λ c. simp (read tt (c .pre .0), read tt (c .pre .1)) (fits tt (product (c .pre .0) (c .pre .1))))
+    returns)

@@ -1,0 +1,13 @@
+-- `sound::noise::next_noise` meets its contract. Assumes nothing.
+use borrow.Author.Needs.{needs}
+use Rattle.sound.specs.Noise.{nextNoise}
+use Rattle.sound.proofs.Taps.{tapped}
+use Rattle.sound.proofs.noise.next_noise.Statement.{statement}
+use Rattle.sound.proofs.noise.next_noise.Tie as tie
+
+returns : tie.Need-returns
+unfolding nextNoise
+returns c = simp tapped
+
+pub next-noise-spec : {M : Type 1} → statement M
+next-noise-spec = tie.close (tie.spec (λ c. search needs) (λ c. search needs) returns)

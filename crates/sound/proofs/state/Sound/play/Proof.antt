@@ -1,0 +1,89 @@
+-- `sound::state::Sound::play` meets its contract. The invariant: the pieces are those of the sound after i samples, and the
+-- buffer holds these.
+-- Assumes nothing.
+use borrow.Author.Needs.{needs}
+use mathlib.Core.Path.{_≡_, ap, _∙_}
+use Prim.Native.Nat.{_-_}
+use native.Mathlib.Omega.{arith}
+use lib.IntN.{ℤ}
+use lib.ListN.{length}
+use mir.Syntax.{w16}
+use denote.Ref.{now}
+use Rattle.base.specs.Range.{Between}
+use Rattle.base.proofs.Range.{read, passed, back-at}
+use Rattle.base.proofs.Steps.{Filled, filled-none, filled-more, filled-all}
+use Rattle.voice.specs.Layout.{pitches}
+use Rattle.sound.specs.Sample.{isVoiced, excitationOf, sampleStep}
+use Rattle.sound.specs.declared.state.Sound.{Sound}
+use Rattle.sound.proofs.Samples.{pieces, excitation-range, step-is, sampled-ranges}
+use Rattle.sound.proofs.Validity.{SoundRanges, ranges}
+use Rattle.sound.proofs.state.Sound.play.Statement.{statement}
+use Rattle.sound.proofs.state.Sound.play.Tie as tie
+
+abbrev Inv-loop : tie.InvT-loop
+Inv-loop file out₀ current target k voiced memory₀ noise₀ pulse₀ i₀ out memory noise pulse i =
+    Filled (sampleStep pitches file) SoundRanges (pieces current target memory₀ noise₀ pulse₀) (length out₀) out (pieces current target memory noise pulse) i
+
+abbrev μ-loop : tie.MeasureT-loop
+μ-loop file out₀ current target k voiced memory₀ noise₀ pulse₀ i₀ out memory noise pulse i = length out₀ - i
+
+loop-holds : tie.Need-loop-holds Inv-loop μ-loop
+loop-holds c =
+    let s = c .before .before .before .before .before .before in
+    filled-none (sampleStep pitches (now (s .args .file))) SoundRanges (s .args .self) (now (s .args .out)) (ranges (s .args .self) (s .pre))
+
+-- what `excitation` gives
+excited : (c : tie.After-excitation Inv-loop μ-loop) → let l = c .before .before .loop in let s = c .before .before .before .before .before .before .before .before .before in
+    c .excitation .result ≡ excitationOf pitches (now (s .args .file)) (isVoiced (s .args .self)) (l .pulse) (l .noise)
+excited c = rw (c .before .before .before .before .is-voiced .ensures) at (c .excitation .ensures)
+
+excited-range : (c : tie.After-excitation Inv-loop μ-loop) → Between 128 127 (c .excitation .result)
+excited-range c =
+    let l = c .before .before .loop in
+    let a = c .before .before .before .before .before .before .before .before .before .args in
+    rw (excited c) (excitation-range pitches (now (a .file)) (isVoiced (a .self)) (l .pulse) (l .noise))
+
+filtered-requires : tie.Need-filtered-requires Inv-loop μ-loop
+filtered-requires c κs =
+    let x = c .before .before .before in
+    let ok = x .before .before .loop .inv .holds in
+    (ok .current .k, ok .memory, passed tt (ok .current .energy), passed tt (excited-range x))
+
+loop-again : tie.Need-loop-again Inv-loop μ-loop
+loop-again c =
+    let v = c .before .before .before .filtered in
+    let x = c .before .before .before .before .before .before .before in
+    let l = x .before .before .loop in
+    let s = x .before .before .before .before .before .before .before .before .before in
+    let ok = l .inv .holds in
+    let e = rw (excited x) at (simp (read tt (ok .current .energy), read tt (excited-range x)) at (v .ensures)) in
+    let u = pieces (s .args .self .current) (s .args .self .target) (l .memory) (l .noise) (l .pulse) in
+    let is =
+    step-is pitches (now (s .args .file)) u
+    (record {
+      value = back-at w16 (v .result) (v .ok) ∙ e .0;
+      memory = e .1;
+      noise = c .before .before .next-noise .ensures;
+      pulse = simp (read tt (ok .current .pitch)) at (c .next-pulse .ensures);
+    }) in
+    filled-more _ _ _ (l .inv) (omega arith) is (rw (ap (λ (r : Sound × ℤ). r .0) is) (sampled-ranges pitches (now (s .args .file)) u ok))
+
+pub play-spec : {M : Type 1} → statement M
+play-spec =
+    tie.close
+    (tie.spec
+    Inv-loop
+    μ-loop
+    (λ c κs. search needs)
+    loop-holds
+    (λ c κs. search needs)
+    filtered-requires
+    (λ c. search needs)
+    (λ c. search needs)
+    (λ c κs. omega (arith, c .before .before .before .before .before .before .loop .inv .holds .noise-high))
+    (λ c κs. c .before .before .before .before .before .before .before .before .loop .inv .holds .pulse)
+    (λ c. search needs)
+    (λ c. search needs)
+    loop-again
+    (λ c. search needs)
+    (λ c. filled-all _ _ _ (c .before .loop .inv) (omega arith)))

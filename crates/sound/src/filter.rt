@@ -1,0 +1,79 @@
+// The lattice filter, in place: stage 10 first, each forward value from that of the stage above.
+ghost use mathlib.Core.Path.{_≡_};
+ghost use Prim.Native.Nat.{_≤_, _<_};
+ghost use Rattle.base.specs.Range.{Between};
+ghost use Rattle.sound.specs.Filter.{scaled, forwardOf, memoryOf, forward, newMemory};
+ghost use Rattle.sound.specs.Ranges.{TenBetween};
+ghost use Rattle.sound.specs.Stages.{stageForward, stageMemory, lowestForward, lowestMemory};
+use crate::range::clamp;
+
+const STAGES: usize = 10;
+
+// The range to which forward values and memory are held.
+pub const MEMORY_MIN: i32 = -8192;
+
+pub const MEMORY_MAX: i32 = 8191;
+
+// The product of a coefficient and a value, divided by 512 and rounded down.
+fn scale(k: i32, x: i32) -> i32
+    requires { ⌜ (Between 512 511 k) × (Between 8192 8191 x) ⌝ }
+    ensures { λ r. ⌜ r ≡ scaled k x ⌝ }
+{
+    k * x >> 9
+}
+
+// A stage's forward value, from that of the stage above.
+fn forward_of(k: i32, m: i32, above: i32) -> i32
+    requires { ⌜ (Between 512 511 k) × (Between 8192 8191 m) × (Between 130944 130944 above) ⌝ }
+    ensures { λ r. ⌜ r ≡ forwardOf k m above ⌝ }
+{
+    clamp(above - scale(k, m), MEMORY_MIN, MEMORY_MAX)
+}
+
+// The new memory above a stage, from the stage's old memory and forward value.
+fn memory_of(k: i32, m: i32, f: i32) -> i32
+    requires { ⌜ (Between 512 511 k) × (Between 8192 8191 m) × (Between 8192 8191 f) ⌝ }
+    ensures { λ r. ⌜ r ≡ memoryOf k m f ⌝ }
+{
+    clamp(m + scale(k, f), MEMORY_MIN, MEMORY_MAX)
+}
+
+// The stage at index i. What it renews is the memory above its own, which the stage above has used already; the last
+// stage has none above it.
+fn stage(k: &[i32; 10], memory: &mut [i32; 10], above: i32, i: usize) -> i32
+    requires { ⌜ (TenBetween 512 511 (now k)) × (TenBetween 8192 8191 (now memory)) × (Between 130944 130944 above) × (i < 10) ⌝ }
+    ensures { λ r. ⌜ r ≡ stageForward (now (k .entry)) (now (memory .entry)) above i ⌝ }
+    ensures { λ r. ⌜ now (memory .exit) ≡ stageMemory (now (k .entry)) (now (memory .entry)) above i ⌝ }
+{
+    let k_i = k[i];
+    let m = memory[i];
+    let f = forward_of(k_i, m, above);
+    if i + 1 < STAGES {
+        memory[i + 1] = memory_of(k_i, m, f);
+    }
+    f
+}
+
+// The lowest `left` stages, from the forward value of the stage above them. Below stage 1, forward value 1 is new memory 1.
+fn stages(k: &[i32; 10], memory: &mut [i32; 10], above: i32, left: usize) -> i32
+    requires { ⌜ (TenBetween 512 511 (now k)) × (TenBetween 8192 8191 (now memory)) × (Between 130944 130944 above) × (left ≤ 10) ⌝ }
+    ensures { λ r. ⌜ r ≡ lowestForward (now (k .entry)) (now (memory .entry)) above left ⌝ }
+    ensures { λ r. ⌜ now (memory .exit) ≡ lowestMemory (now (k .entry)) (now (memory .entry)) above left ⌝ }
+{
+    if left == 0 {
+        memory[0] = above;
+        return above;
+    }
+    let i = left - 1;
+    let f = stage(k, memory, above, i);
+    stages(k, memory, f, i)
+}
+
+// Forward value 1 of an input, with the memory renewed.
+pub fn filter(k: &[i32; 10], memory: &mut [i32; 10], input: i32) -> i32
+    requires { ⌜ (TenBetween 512 511 (now k)) × (TenBetween 8192 8191 (now memory)) × (Between 130944 130944 input) ⌝ }
+    ensures { λ r. ⌜ r ≡ forward (now (k .entry)) (now (memory .entry)) input ⌝ }
+    ensures { λ r. ⌜ now (memory .exit) ≡ newMemory (now (k .entry)) (now (memory .entry)) input ⌝ }
+{
+    stages(k, memory, input, STAGES)
+}

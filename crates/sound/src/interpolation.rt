@@ -1,0 +1,81 @@
+// Interpolation: at an interval's first sample the parameters move towards their targets.
+ghost use mathlib.Core.Path.{_≡_};
+ghost use mathlib.Core.Bool.{true};
+ghost use mathlib.Core.List.{zipWith};
+ghost use Prim.Native.Nat.{_<_, _^_};
+ghost use Rattle.base.specs.Range.{Between};
+ghost use Rattle.sound.specs.Interpolation.{towardBy, towardParams, divisor, interpolated};
+ghost use Rattle.sound.specs.Ranges.{TenBetween};
+ghost use Rattle.sound.specs.State.{paramsValid, soundValid};
+use crate::params::Params;
+use crate::state::Sound;
+use base::units::Intervals;
+
+// The divisors 8, 8, 8, 4, 4, 2, 2, 1 of the intervals, as powers of two.
+const SHIFTS: [u32; 8] = [3, 3, 3, 2, 2, 1, 1, 0];
+
+// The shift of an interval.
+fn shift_of(interval: Intervals) -> u32
+    requires { ⌜ interval .0 < 8 ⌝ }
+    ensures { λ r. ⌜ (r < 4) × (2 ^ r ≡ divisor interval) ⌝ }
+{
+    let i = interval.0 as usize;
+    SHIFTS[i]
+}
+
+// One step of a value towards its target: the difference, divided by a power of two and rounded down, is added.
+fn toward(current: i32, target: i32, shift: u32) -> i32
+    requires { ⌜ (Between 1023 1023 current) × (Between 1023 1023 target) × (shift < 4) ⌝ }
+    ensures { λ r. ⌜ r ≡ towardBy (2 ^ shift) current target ⌝ }
+{
+    current + ((target - current) >> shift)
+}
+
+// Each K moved towards its target.
+fn toward_each(current: [i32; 10], target: [i32; 10], shift: u32) -> [i32; 10]
+    requires { ⌜ (TenBetween 512 511 current) × (TenBetween 512 511 target) × (shift < 4) ⌝ }
+    ensures { λ r. ⌜ r ≡ zipWith (towardBy (2 ^ shift)) current target ⌝ }
+{
+    let mut r = current;
+    for i in 0..10 {
+        let c = current[i];
+        let t = target[i];
+        r[i] = toward(c, t, shift);
+    }
+    r
+}
+
+impl Params {
+    // The parameters moved towards a target.
+    fn toward(self, target: Params, shift: u32) -> Params
+        requires { ⌜ (paramsValid self ≡ true) × (paramsValid target ≡ true) × (shift < 4) ⌝ }
+        ensures { λ r. ⌜ r ≡ towardParams (2 ^ shift) self target ⌝ }
+    {
+        let from = self.k;
+        let to = target.k;
+        let energy = toward(self.energy, target.energy, shift);
+        let pitch = toward(self.pitch, target.pitch, shift);
+        let k = toward_each(from, to, shift);
+        Params { energy, pitch, k }
+    }
+}
+
+impl Sound {
+    // The sound after the interpolation at an interval of a frame.
+    pub fn interpolate(self, interval: Intervals) -> Sound
+        requires { ⌜ (soundValid self ≡ true) × (interval .0 < 8) ⌝ }
+        ensures { λ r. ⌜ r ≡ interpolated interval self ⌝ }
+    {
+        let from = self.current;
+        let target = self.target;
+        let memory = self.memory;
+        let current = from.toward(target, shift_of(interval));
+        Sound {
+            current,
+            target,
+            memory,
+            noise: self.noise,
+            pulse: self.pulse,
+        }
+    }
+}

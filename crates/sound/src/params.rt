@@ -1,0 +1,41 @@
+// The parameters of the sound, and their ranges.
+ghost use mathlib.Core.Path.{_≡_};
+ghost use Rattle.sound.specs.State.{paramsInside, paramsValid, zeroParams};
+use crate::range::all_inside;
+use crate::range::is_inside;
+
+// Energy and pitch, and K1 to K10.
+pub struct Params {
+    pub energy: i32,
+    pub pitch: i32,
+    pub k: [i32; 10],
+}
+
+impl Params {
+    // The most that energy and pitch can be. The least is 0.
+    pub const MAX: i32 = 1023;
+
+    pub const K_MIN: i32 = -512;
+
+    pub const K_MAX: i32 = 511;
+
+    // Whether energy and pitch are in 0..top and each K in low..high.
+    fn is_inside(self, top: i32, low: i32, high: i32) -> bool
+        ensures { λ r. ⌜ r ≡ paramsInside top low high self ⌝ }
+    {
+        let k = self.k;
+        is_inside(self.energy, 0, top) & is_inside(self.pitch, 0, top) & all_inside(k, low, high)
+    }
+
+    pub fn valid(self) -> bool
+        ensures { λ r. ⌜ r ≡ paramsValid self ⌝ }
+    {
+        self.is_inside(Self::MAX, Self::K_MIN, Self::K_MAX)
+    }
+
+    pub fn is_zero(self) -> bool
+        ensures { λ r. ⌜ r ≡ zeroParams self ⌝ }
+    {
+        self.is_inside(0, 0, 0)
+    }
+}
