@@ -1,0 +1,28 @@
+-- What an acknowledge and a read answer, by their fault.
+-- Assumes nothing.
+use mathlib.Core.Path.{_≡_, refl}
+use Prim.Native.Nat.{ℕ}
+use borrow.Author.Tests.{eq-eqb, ne-eqb}
+use Rattle.base.proofs.Faults.{answered, refused-with}
+use Rattle.chip.specs.Types.{Chip, Acknowledged}
+use Rattle.chip.specs.State.{withPort}
+use Rattle.chip.specs.Read.{busByte, acknowledgedPort, readFault, notAcknowledged, acknowledgeOf, readOf}
+
+module _ (c : Chip) where
+  module _ {n : ℕ} (e : n ≡ readFault c) where
+    pub acknowledge-refused : (n ≡ 0 → ⊥) → record { chip = c; refusal = n } ≡ acknowledgeOf c
+    unfolding acknowledgeOf
+    acknowledge-refused h = refused-with e (notAcknowledged c) _ h refl
+
+    pub acknowledge-taken : {d : Chip} → n ≡ 0 → d ≡ withPort (acknowledgedPort (c .control .port)) c → record { chip = d; refusal = 0 } ≡ acknowledgeOf c
+    unfolding acknowledgeOf
+    acknowledge-taken h w = answered e (notAcknowledged c) _ h (rw w)
+
+  module _ {a : Acknowledged} (e : a ≡ acknowledgeOf c) where
+    pub read-refused : (a .refusal ≡ 0 → ⊥) → record { chip = a .chip; refusal = a .refusal; byte = 0 } ≡ readOf c
+    unfolding readOf
+    read-refused h = rw (← e, ne-eqb (a .refusal) 0 h)
+
+    pub read-taken : {x : ℕ} → a .refusal ≡ 0 → x ≡ busByte (c .control) → record { chip = a .chip; refusal = a .refusal; byte = x } ≡ readOf c
+    unfolding readOf
+    read-taken h w = rw (← e, eq-eqb (a .refusal) 0 h, w)

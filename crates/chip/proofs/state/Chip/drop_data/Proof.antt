@@ -1,0 +1,12 @@
+-- `chip::state::Chip::drop_data` meets its contract. Assumes nothing.
+use borrow.Author.Needs.{needs}
+use Rattle.chip.proofs.state.Chip.drop_data.Statement.{statement}
+use Rattle.chip.proofs.state.Chip.drop_data.Tie as tie
+
+pub drop-data-spec : {M : Type 1} → statement M
+drop-data-spec =
+    tie.close
+    (tie.spec
+    (λ c κs. search needs)
+    (λ c κs. search needs)
+    (λ c. cc))

@@ -1,0 +1,37 @@
+-- What is proved of the bus side: the ranges are kept, and what the FIFO holds.
+use mathlib.Core.Path.{_≡_}
+use mathlib.Core.Bool.{true}
+use mathlib.Core.List.{List, _++_}
+use Prim.Native.Nat.{ℕ, _+_, _*_, _-_, _<_, _≤_}
+use lib.ListN.{length, drop}
+use Rattle.rom.specs.Bits.{digits}
+use Rattle.chip.specs.Types.{Mode, Fifo, Chip}
+use Rattle.chip.specs.State.{fifoSize, powerUp}
+use Rattle.chip.specs.Validity.{fifoValid, valid}
+use Rattle.chip.specs.Buffer.{appended, heldBits}
+use Rattle.chip.specs.Write.{writeOf}
+use Rattle.chip.specs.Read.{acknowledgeOf, readOf}
+
+-- The power-up state is valid.
+abbrev pub PowerUpValid : Type 0
+PowerUpValid = valid powerUp ≡ true
+
+-- A valid chip stays valid under every written byte, taken or refused.
+abbrev pub WriteKeepsValid : Type 0
+WriteKeepsValid = (image : List ℕ) (c : Chip) (b : ℕ) → valid c ≡ true → valid (writeOf image c b .chip) ≡ true
+
+-- and under every acknowledge and read
+abbrev pub AcknowledgeKeepsValid : Type 0
+AcknowledgeKeepsValid = (c : Chip) → valid c ≡ true → valid (acknowledgeOf c .chip) ≡ true
+
+abbrev pub ReadKeepsValid : Type 0
+ReadKeepsValid = (c : Chip) → valid c ≡ true → valid (readOf c .chip) ≡ true
+
+-- The FIFO holds eight bits for each byte, less those used.
+abbrev pub HeldLength : Type 0
+HeldLength = (m : Mode) (f : Fifo) → fifoValid m f ≡ true → length (heldBits f) ≡ 8 * f .level - f .used
+
+-- A byte more puts its bits behind those held.
+abbrev pub HeldAppended : Type 0
+HeldAppended =
+    (m : Mode) (f : Fifo) (b : ℕ) → fifoValid m f ≡ true → f .level < fifoSize → heldBits (appended f b) ≡ heldBits f ++ digits 8 b

@@ -1,0 +1,82 @@
+-- The chip's value: device numbers, the power-up state, and the chip with one of its parts changed.
+use mathlib.Core.Bool.{true, false}
+use Prim.Native.Nat.{ℕ}
+use lib.ListN.{replicate}
+use Rattle.sound.specs.State.{restSound}
+use Rattle.chip.specs.Types.{Mode, Idle, Place, Fifo, Port, Clock, Chip}
+
+-- bytes of the FIFO, and the most with which BL is set
+abbrev pub fifoSize : ℕ
+fifoSize = 16
+
+abbrev pub lowLevel : ℕ
+lowLevel = 8
+
+-- the position's greatest value, bytes of one ROM chip, and bytes that an address reaches
+abbrev pub positionLimit : ℕ
+positionLimit = 2097152
+
+abbrev pub romSize : ℕ
+romSize = 16384
+
+abbrev pub addressLimit : ℕ
+addressLimit = 262144
+
+-- an empty FIFO
+abbrev pub emptyFifo : Fifo
+emptyFifo = record { bytes = replicate fifoSize 0; level = 0; used = 0 }
+
+-- the counters of a silent chip, and of one that starts to sound
+abbrev pub stopped : Clock
+stopped = record { sounding = false; sample = record { 0 = 0 }; interval = record { 0 = 0 } }
+
+abbrev pub started : Clock
+started = record { sounding = true; sample = record { 0 = 0 }; interval = record { 0 = 0 } }
+
+-- power-up (01, "Commands, FIFO, status"): idle, silent, empty FIFO, position 0, no data byte, no interrupt
+abbrev pub powerUp : Chip
+powerUp = record {
+  control = record {
+    mode = Idle;
+    place = record { position = 0; nibble = 0 };
+    fifo = emptyFifo;
+    port = record { pending = false; byte = 0; interrupt = false };
+    clock = stopped;
+  };
+  sound = restSound;
+}
+
+-- the chip with another place in the ROM
+abbrev pub withPlace : Place → Chip → Chip
+withPlace p c = record {
+  control = record { mode = c .control .mode; place = p; fifo = c .control .fifo; port = c .control .port; clock = c .control .clock };
+  sound = c .sound;
+}
+
+-- with another FIFO
+abbrev pub withFifo : Fifo → Chip → Chip
+withFifo f c = record {
+  control = record { mode = c .control .mode; place = c .control .place; fifo = f; port = c .control .port; clock = c .control .clock };
+  sound = c .sound;
+}
+
+-- with another port
+abbrev pub withPort : Port → Chip → Chip
+withPort p c = record {
+  control = record { mode = c .control .mode; place = c .control .place; fifo = c .control .fifo; port = p; clock = c .control .clock };
+  sound = c .sound;
+}
+
+-- in another mode
+abbrev pub withMode : Mode → Chip → Chip
+withMode m c = record {
+  control = record { mode = m; place = c .control .place; fifo = c .control .fifo; port = c .control .port; clock = c .control .clock };
+  sound = c .sound;
+}
+
+-- TS rising (01, "Sound") puts the sound at rest and starts it
+abbrev pub talking : Mode → Chip → Chip
+talking m c = record {
+  control = record { mode = m; place = c .control .place; fifo = c .control .fifo; port = c .control .port; clock = started };
+  sound = restSound;
+}

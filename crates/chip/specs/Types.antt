@@ -1,0 +1,14 @@
+-- The declared types of the source, by short names.
+pub use Rattle.chip.specs.declared.state.Mode.{Mode}
+pub use Rattle.chip.specs.declared.state.Mode.the-variants.{Idle, Rom, Waiting, External}
+pub use Rattle.chip.specs.declared.state.Place.{Place}
+pub use Rattle.chip.specs.declared.state.Fifo.{Fifo}
+pub use Rattle.chip.specs.declared.state.Port.{Port}
+pub use Rattle.chip.specs.declared.state.Clock.{Clock}
+pub use Rattle.chip.specs.declared.state.Control.{Control}
+pub use Rattle.chip.specs.declared.state.Chip.{Chip}
+pub use Rattle.chip.specs.declared.commands.Command.{Command}
+pub use Rattle.chip.specs.declared.commands.Command.the-variants.{Nothing, ReadByte, ReadAndBranch, LoadAddress, Speak, SpeakExternal, Reset}
+pub use Rattle.chip.specs.declared.write.Written.{Written}
+pub use Rattle.chip.specs.declared.read.Acknowledged.{Acknowledged}
+pub use Rattle.chip.specs.declared.read.ByteRead.{ByteRead}

@@ -1,0 +1,8 @@
+// The chip of document 01: one value, which each operation takes and hands back.
+pub mod addresses;
+pub mod commands;
+pub mod fifo;
+pub mod read;
+pub mod state;
+pub mod validity;
+pub mod write;
