@@ -5,8 +5,12 @@ use Rattle.rom.specs.Bits.{bit, field, digits}
 use Rattle.rom.specs.Reader.{decoded, frameAt}
 use Rattle.rom.specs.Items.{itemsFrom}
 use Rattle.rom.specs.Phrases.{walkOf}
+use Rattle.sound.specs.State.{soundValid, atRest}
+use Rattle.sound.specs.Noise.{noiseBit, nextNoise}
+use Rattle.chip.specs.Validity.{controlValid, valid}
+use Rattle.chip.specs.Write.{writeFault, writeOf}
 use Rattle.claims.specs.Cases.{cases, CasesHold}
 
 pub cases-hold : CasesHold
-unfolding cases walkOf itemsFrom frameAt decoded field bit digits
+unfolding cases walkOf itemsFrom frameAt decoded field bit digits writeOf writeFault valid controlValid soundValid atRest nextNoise noiseBit
 cases-hold = refl
