@@ -14,7 +14,7 @@ use Rattle.rom.specs.Bits.{imageLimit}
 use Rattle.rom.proofs.Checks.{valid-length}
 use Rattle.sound.specs.State.{soundValid, restSound, atRest}
 use Rattle.chip.specs.Types.{Mode, Idle, Rom, Waiting, External, Place, Fifo, Port, Clock, Control, Chip, Command, Nothing, ReadByte, ReadAndBranch, LoadAddress, Speak, SpeakExternal, Reset}
-use Rattle.chip.specs.State.{positionLimit, fifoSize, lowLevel, addressLimit, romSize, emptyFifo, started, powerUp, withPlace, withPort, withFifo, withMode, talking}
+use Rattle.chip.specs.State.{positionLimit, fifoSize, startLevel, addressLimit, romSize, emptyFifo, started, powerUp, withPlace, withPort, withFifo, withMode, talking}
 use Rattle.chip.specs.Validity.{isIdle, speaks, placeValid, allZero, fifoValid, portValid, clockValid, controlValid, valid, mostLevel, leastLevel, mostUsed}
 use Rattle.chip.specs.Addresses.{loaded, pastByte, branched, branchAddress, restarted, withNibble}
 use Rattle.chip.specs.Buffer.{appended}
@@ -154,19 +154,19 @@ module _ (image : List ℕ) (c : Chip) (b : ℕ) (r : ChipRanges c) (f : Found i
       go : (t : Bool) → ChipRanges (cond t powerUp c)
       go true = chip-ranges powerUp power-up-valid
       go false = r
-  written-valid Waiting e = go (eqb (c .control .fifo .level) lowLevel) refl
+  written-valid Waiting e = go (eqb (c .control .fifo .level + 1) startLevel) refl
     where
       held : fifoValid Waiting (c .control .fifo) ≡ true
       held = subst (λ (m : Mode). fifoValid m (c .control .fifo) ≡ true) e (r .control .fifo)
 
-      go : (t : Bool) → eqb (c .control .fifo .level) lowLevel ≡ t → ChipRanges (cond t (talking External (buffered c b)) (buffered c b))
+      go : (t : Bool) → eqb (c .control .fifo .level + 1) startLevel ≡ t → ChipRanges (cond t (talking External (buffered c b)) (buffered c b))
       go true t =
-          let l = eqb-true (c .control .fifo .level) lowLevel t in
+          let l = eqb-true (c .control .fifo .level + 1) startLevel t in
           talk-valid External (buffered c b) (r .control .place)
           (appended-valid Waiting External (c .control .fifo) b held (omega arith) (omega arith) (omega arith))
           (subst (λ (m : Mode). portValid m (c .control .port) ≡ true) e (r .control .port)) refl
       go false t =
-          let l = eqb-false (c .control .fifo .level) lowLevel t in
+          let l = eqb-false (c .control .fifo .level + 1) startLevel t in
           let u = fifo-ranges Waiting (c .control .fifo) held .most in
           fifo-kept c r (appended (c .control .fifo) b)
           (rw e (appended-valid Waiting Waiting (c .control .fifo) b held (omega arith) (omega (arith, l, u)) (omega arith)))

@@ -5,12 +5,15 @@ use lib.ListN.{replicate}
 use Rattle.sound.specs.State.{restSound}
 use Rattle.chip.specs.Types.{Mode, Idle, Place, Fifo, Port, Clock, Chip}
 
--- bytes of the FIFO, and the most with which BL is set
+-- bytes of the FIFO, the most with which BL is set, and those with which external speaking starts
 abbrev pub fifoSize : ℕ
 fifoSize = 16
 
 abbrev pub lowLevel : ℕ
 lowLevel = 8
+
+abbrev pub startLevel : ℕ
+startLevel = 9
 
 -- the position's greatest value, bytes of one ROM chip, and bytes that an address reaches
 abbrev pub positionLimit : ℕ

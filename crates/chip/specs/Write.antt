@@ -7,7 +7,7 @@ use lib.ListN.{length}
 use Rattle.base.specs.Refusals.{TAKEN, WAIT, BEYOND, IMAGE, STATE, firstFault, unlessFault}
 use Rattle.rom.specs.Bits.{imageValid}
 use Rattle.chip.specs.Types.{Mode, Idle, Rom, Waiting, External, Chip, Command, Nothing, ReadByte, ReadAndBranch, LoadAddress, Speak, SpeakExternal, Reset, Written}
-use Rattle.chip.specs.State.{fifoSize, lowLevel, withFifo, talking}
+use Rattle.chip.specs.State.{fifoSize, startLevel, withFifo, talking}
 use Rattle.chip.specs.Validity.{valid}
 use Rattle.chip.specs.Commands.{commandOf, isReset, reset, obeyed}
 use Rattle.chip.specs.Buffer.{appended}
@@ -53,7 +53,7 @@ buffered c b = withFifo (appended (c .control .fifo) b) c
 abbrev pub writtenIn : Mode → List ℕ → Chip → ℕ → Chip
 writtenIn Idle image c b = obeyed image c b (commandOf b)
 writtenIn Rom image c b = cond (isReset (commandOf b)) (reset c) c
-writtenIn Waiting image c b = cond (eqb (c .control .fifo .level) lowLevel) (talking External (buffered c b)) (buffered c b)
+writtenIn Waiting image c b = cond (eqb (c .control .fifo .level + 1) startLevel) (talking External (buffered c b)) (buffered c b)
 writtenIn External image c b = buffered c b
 
 -- refused, the state is the given one

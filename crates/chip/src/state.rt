@@ -96,6 +96,11 @@ impl Chip {
     // BL is set with so many bytes held, or fewer.
     pub const LOW_LEVEL: u8 = 8;
 
+    // External speaking starts with so many.
+    pub const START_LEVEL: u8 = 9;
+
+    pub const IMAGE_LIMIT: usize = rom::bits::IMAGE_LIMIT;
+
     pub const POSITION_LIMIT: usize = 2097152;
 
     // The bytes of one ROM chip, and those of all that an address reaches.

@@ -116,7 +116,7 @@ impl Chip {
             Mode::Waiting => {
                 let level = control.fifo.level;
                 let buffered = self.buffer(byte);
-                if level == Chip::LOW_LEVEL {
+                if level + 1 == Chip::START_LEVEL {
                     buffered.talk(Mode::External)
                 } else {
                     buffered
