@@ -4,3 +4,7 @@ pub mod Writing
 pub mod Reading
 pub mod KeptValid
 pub mod Held
+pub mod Shifting
+pub mod Moving
+pub mod Stepping
+pub mod StepsValid

@@ -1,16 +1,16 @@
 -- What a valid chip's fields are, from the tests.
 -- Assumes nothing.
 use mathlib.Core.Path.{_≡_}
-use mathlib.Core.Bool.{true, _&&_, _||_}
+use mathlib.Core.Bool.{true, not, _&&_, _||_}
 use Prim.Native.Nat.{ℕ, _≤_}
 use borrow.Author.Tests.{leb-true, eqb-true, le-leb, eq-eqb}
 use lib.Dec.{eqb, leb}
 use lib.ListN.{length, drop}
 use Rattle.base.proofs.Booleans.{both-true}
 use Rattle.sound.specs.State.{soundValid, atRest}
-use Rattle.chip.specs.Types.{Mode, Place, Fifo, Control, Chip}
+use Rattle.chip.specs.Types.{Mode, Place, Fifo, Clock, Control, Chip}
 use Rattle.chip.specs.State.{positionLimit, fifoSize}
-use Rattle.chip.specs.Validity.{placeValid, leastLevel, mostLevel, mostUsed, allZero, clearFrom, fifoValid, portValid, clockValid, controlValid, valid}
+use Rattle.chip.specs.Validity.{speaks, placeValid, leastLevel, mostLevel, mostUsed, allZero, clearFrom, fifoValid, portValid, clockValid, controlValid, valid}
 
 -- the conditions of a valid control
 pub record ControlRanges (k : Control) : Type 0 where
@@ -49,6 +49,13 @@ pub place-ranges : (p : Place) → placeValid p ≡ true → (p .position ≤ po
 place-ranges p h =
     let r = both-true (leb (p .position) positionLimit) (leb (p .nibble) 4) h in
     (leb-true _ _ (r .0), leb-true _ _ (r .1))
+
+pub clock-ranges : (m : Mode) (t : Clock) → clockValid m t ≡ true → (t .sample .0 ≤ 24) × (t .interval .0 ≤ 7)
+clock-ranges m t h =
+    let a = leb (t .sample .0) 24 in
+    let b = leb (t .interval .0) 7 in
+    let p = both-true a b (both-true (a && b) (t .sounding || (eqb (t .sample .0) 0 && eqb (t .interval .0) 0 && not (speaks m))) h .0) in
+    (leb-true _ _ (p .0), leb-true _ _ (p .1))
 
 pub record FifoRanges (m : Mode) (f : Fifo) : Type 0 where
   pub least : leastLevel m ≤ f .level

@@ -1,4 +1,4 @@
--- What is proved of the bus side: the ranges are kept, and what the FIFO holds.
+-- What is proved of every operation: the ranges are kept; and what the FIFO holds.
 use mathlib.Core.Path.{_≡_}
 use mathlib.Core.Bool.{true}
 use mathlib.Core.List.{List, _++_}
@@ -8,9 +8,11 @@ use Rattle.rom.specs.Bits.{digits}
 use Rattle.chip.specs.Types.{Mode, Fifo, Chip}
 use Rattle.chip.specs.State.{fifoSize, powerUp}
 use Rattle.chip.specs.Validity.{fifoValid, valid}
-use Rattle.chip.specs.Buffer.{appended, heldBits}
+use Rattle.chip.specs.Buffer.{appended, usedUp, heldBits}
 use Rattle.chip.specs.Write.{writeOf}
 use Rattle.chip.specs.Read.{acknowledgeOf, readOf}
+use Rattle.chip.specs.Step.{stepOf}
+use Rattle.chip.specs.Run.{runOf}
 
 -- The power-up state is valid.
 abbrev pub PowerUpValid : Type 0
@@ -27,6 +29,13 @@ AcknowledgeKeepsValid = (c : Chip) → valid c ≡ true → valid (acknowledgeOf
 abbrev pub ReadKeepsValid : Type 0
 ReadKeepsValid = (c : Chip) → valid c ≡ true → valid (readOf c .chip) ≡ true
 
+-- and under every sample step and every run, with any image and voice file
+abbrev pub StepKeepsValid : Type 0
+StepKeepsValid = (image voice : List ℕ) (c : Chip) → valid c ≡ true → valid (stepOf image voice c .chip) ≡ true
+
+abbrev pub RunKeepsValid : Type 0
+RunKeepsValid = (image voice : List ℕ) (c : Chip) (n : ℕ) → valid c ≡ true → valid (runOf image voice c n .chip) ≡ true
+
 -- The FIFO holds eight bits for each byte, less those used.
 abbrev pub HeldLength : Type 0
 HeldLength = (m : Mode) (f : Fifo) → fifoValid m f ≡ true → length (heldBits f) ≡ 8 * f .level - f .used
@@ -35,3 +44,8 @@ HeldLength = (m : Mode) (f : Fifo) → fifoValid m f ≡ true → length (heldBi
 abbrev pub HeldAppended : Type 0
 HeldAppended =
     (m : Mode) (f : Fifo) (b : ℕ) → fifoValid m f ≡ true → f .level < fifoSize → heldBits (appended f b) ≡ heldBits f ++ digits 8 b
+
+-- With n bits of those held gone, all of them perhaps, it holds the rest.
+abbrev pub HeldUsed : Type 0
+HeldUsed =
+    (m : Mode) (f : Fifo) (n : ℕ) → fifoValid m f ≡ true → n ≤ length (heldBits f) → heldBits (usedUp f (f .used + n)) ≡ drop n (heldBits f)

@@ -6,4 +6,7 @@ pub mod Buffer
 pub mod Commands
 pub mod Write
 pub mod Read
+pub mod Advance
+pub mod Step
+pub mod Run
 pub mod Laws

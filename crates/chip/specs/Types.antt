@@ -12,3 +12,10 @@ pub use Rattle.chip.specs.declared.commands.Command.the-variants.{Nothin
 pub use Rattle.chip.specs.declared.write.Written.{Written}
 pub use Rattle.chip.specs.declared.read.Acknowledged.{Acknowledged}
 pub use Rattle.chip.specs.declared.read.ByteRead.{ByteRead}
+pub use Rattle.chip.specs.declared.advance.Action.{Action}
+pub use Rattle.chip.specs.declared.advance.Action.the-variants.{Silent, Rest, RunOut, Begin, Continue}
+pub use Rattle.chip.specs.declared.advance.Moved.{Moved}
+pub use Rattle.chip.specs.declared.step.Report.{Report}
+pub use Rattle.chip.specs.declared.step.Report.the-variants.{Nothing as NoReport, Frame as FrameReport, Stop as StopReport, RanOut}
+pub use Rattle.chip.specs.declared.step.Stepped.{Stepped}
+pub use Rattle.chip.specs.declared.run.Ran.{Ran}

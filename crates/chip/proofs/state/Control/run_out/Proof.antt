@@ -1,0 +1,12 @@
+-- `chip::state::Control::run_out` meets its contract. Assumes nothing.
+use borrow.Author.Needs.{needs}
+use Rattle.chip.proofs.state.Control.run_out.Statement.{statement}
+use Rattle.chip.proofs.state.Control.run_out.Tie as tie
+
+pub run-out-spec : {M : Type 1} → statement M
+run-out-spec =
+    tie.close
+    (tie.spec
+    (λ c κs. search needs)
+    (λ c κs. search needs)
+    (λ c. rw (c .change .ensures, c .before .stopped .ensures)))
