@@ -1,1 +1,11 @@
 pub mod Computed
+pub mod Chain
+pub mod Boundary
+pub mod Progress
+pub mod Speech
+pub mod Commanded
+pub mod Opening
+pub mod Answers
+pub mod Calls
+pub mod Demand3
+pub mod Example

@@ -1,0 +1,68 @@
+-- What a valid chip answers on a valid image: a step and a run by their voice file, a written byte by the refusal table, a
+-- read with the status.
+-- Assumes nothing.
+use mathlib.Core.Path.{_≡_, refl, sym}
+use mathlib.Core.Bool.{Bool, true, false, not, cond}
+use mathlib.Core.List.{List}
+use Prim.Native.Nat.{ℕ}
+use borrow.Author.Tests.{eqb-true}
+use lib.Dec.{eqb}
+use Rattle.base.specs.Steps.{stateAfter}
+use Rattle.rom.specs.Bits.{imageValid}
+use Rattle.chip.specs.State.{withPort}
+use Rattle.chip.specs.Validity.{valid}
+use Rattle.chip.specs.Commands.{commandOf}
+use Rattle.chip.specs.Write.{waits, beyond, writeFault}
+use Rattle.chip.specs.Read.{statusOf, acknowledgedPort, acknowledgeOf, readOf}
+use Rattle.chip.specs.Step.{steps, stepFault, notStepped, stepOf}
+use Rattle.chip.specs.Run.{sampleStep, notRun, runOf}
+use Rattle.chip.specs.declared.state.Mode.the-variants.{Idle, Rom}
+use Rattle.chip.specs.declared.state.Port.{Port}
+use Rattle.chip.specs.declared.state.Control.{Control}
+use Rattle.chip.specs.declared.state.Chip.{Chip}
+use Rattle.claims.specs.Demand3.{faultOf}
+
+module _ (image voice : List ℕ) (c : Chip) (i : imageValid image ≡ true) (v : valid c ≡ true) where
+  -- the fault of a step is that of its voice file
+  step-fault : stepFault image voice c ≡ faultOf voice
+  unfolding stepFault
+  step-fault = rw (i, v) (go (eqb (faultOf voice) 0) refl)
+    where
+      go : (t : Bool) → eqb (faultOf voice) 0 ≡ t → cond (not t) (faultOf voice) 0 ≡ faultOf voice
+      go true e = sym (eqb-true (faultOf voice) 0 e)
+      go false e = refl
+
+  pub step-by-voice : {t : Bool} → eqb (faultOf voice) 0 ≡ t → stepOf image voice c ≡ cond t (steps image voice c) (notStepped c (faultOf voice))
+  unfolding stepOf
+  step-by-voice e = rw (step-fault, e)
+
+  pub run-by-voice : (n : ℕ) {t : Bool} → eqb (faultOf voice) 0 ≡ t
+      → runOf image voice c n ≡ cond t (record { chip = stateAfter (sampleStep image voice) n c; refusal = 0 }) (notRun c (faultOf voice))
+  unfolding runOf
+  run-by-voice n e = rw (step-fault, e)
+
+pub write-fault : (image : List ℕ) (c : Chip) (b : ℕ) → imageValid image ≡ true → valid c ≡ true
+    → writeFault image c b ≡ cond (waits (c .control .mode) (c .control .fifo .level) (commandOf b)) 1 (cond (beyond (c .control .mode) image (c .control .place .position) (commandOf b)) 2 0)
+unfolding writeFault
+write-fault image c b i v = rw (i, v)
+
+module _ (c : Chip) (v : valid c ≡ true) where
+  pub read-taken : readOf c .refusal ≡ 0
+  unfolding readOf acknowledgeOf
+  read-taken = rw v
+
+  pub read-status : c .control .port .pending ≡ false → readOf c .byte ≡ statusOf (c .control)
+  unfolding readOf acknowledgeOf
+  read-status p = rw (v, p)
+
+  pub read-chip : readOf c .chip ≡ withPort (acknowledgedPort (c .control .port)) c
+  unfolding readOf acknowledgeOf
+  read-chip = rw v
+
+pub still-none : (p : Port) → p .pending ≡ false → acknowledgedPort p .pending ≡ false
+still-none p e = rw e
+
+-- the status: BL and BE are set, and TS with the mode
+pub status-is : (t : Bool) (k : Control) → k .mode ≡ cond t Rom Idle → k .fifo .level ≡ 0 → statusOf k ≡ cond t 0xE0 0x60
+status-is true k m l = rw (m, l)
+status-is false k m l = rw (m, l)

@@ -1,0 +1,27 @@
+-- A byte that an idle chip takes.
+-- Assumes nothing.
+use mathlib.Core.Path.{_≡_, refl, sym, ap, _∙_}
+use mathlib.Core.Bool.{true, false}
+use mathlib.Core.List.{List}
+use Prim.Native.Nat.{ℕ}
+use Rattle.rom.specs.Bits.{imageValid}
+use Rattle.chip.specs.Validity.{valid}
+use Rattle.chip.specs.Commands.{commandOf, obeyed}
+use Rattle.chip.specs.Write.{waits, beyond, beyondAt, writeFault, writeOf}
+use Rattle.chip.specs.declared.state.Mode.{Mode}
+use Rattle.chip.specs.declared.state.Mode.the-variants.{Idle}
+use Rattle.chip.specs.declared.state.Chip.{Chip}
+use Rattle.chip.specs.declared.commands.Command.{Command}
+use Rattle.chip.specs.declared.write.Written.{Written}
+use Rattle.chip.proofs.Writing.{in-mode, write-taken}
+
+-- a command that is not beyond the image is taken and obeyed
+pub obeys : (image : List ℕ) (c : Chip) (b : ℕ) (k : Command) → imageValid image ≡ true → valid c ≡ true → c .control .mode ≡ Idle
+    → commandOf b ≡ k → beyondAt image (c .control .place .position) k ≡ false
+    → writeOf image c b ≡ record { chip = obeyed image c b k; refusal = 0 }
+unfolding writeFault
+obeys image c b k i v m e n =
+    sym (write-taken image c b (sym fault) refl (sym (ap (obeyed image c b) e) ∙ in-mode image c b m))
+  where
+    fault : writeFault image c b ≡ 0
+    fault = rw (i, v, m, e, n)

@@ -1,0 +1,67 @@
+-- What is due when (01, "What acceptance reads"), of the frames that stand at an address. Taken sample steps are numbered
+-- from 1. Nothing here speaks of a chip: all is told from the frames and the number of steps.
+use mathlib.Core.Bool.{Bool, not, cond, _&&_}
+use mathlib.Core.List.{List, [], _∷_}
+use Prim.Native.Nat.{ℕ, _+_}
+use lib.Dec.{eqb, leb, ltb}
+use lib.ListN.{length}
+use Rattle.base.specs.Units.{intervalsOf, samplesOf}
+use Rattle.rom.specs.Frames.{pitchBits, isStop}
+use Rattle.rom.specs.Items.{bitsAll, hasStop}
+use Rattle.rom.specs.Phrases.{frameCode}
+use Rattle.rom.specs.declared.frames.Frame.{Frame}
+use Rattle.chip.specs.Step.{begins}
+use Rattle.chip.specs.declared.step.Report.{Report}
+use Rattle.chip.specs.declared.step.Report.the-variants.{Nothing, RanOut}
+
+-- the samples of a frame: 8 intervals of 25, whatever the frame
+abbrev pub samplesOfFrame : Frame → ℕ
+samplesOfFrame f = samplesOf (intervalsOf (record { 0 = 1 })) .0
+
+-- the bits of frames, as many as the table of kinds gives them
+abbrev pub totalBits : List Frame → ℕ
+totalBits fs = length (bitsAll (frameCode pitchBits) fs)
+
+-- ---- from a step on: the next of the frames fs is due at step `at`, and each later one after the samples of those before it
+
+-- the frames due in the first n steps
+unfoldable pub dueFrom : ℕ → List Frame → ℕ → List Frame
+dueFrom at [] n = []
+dueFrom at (f ∷ fs) n = cond (leb at n) (f ∷ dueFrom (at + samplesOfFrame f) fs n) []
+
+-- the step of the end: the stop's or, without one, running out, where the next frame would be due
+unfoldable pub endFrom : ℕ → List Frame → ℕ
+endFrom at [] = at
+endFrom at (f ∷ fs) = cond (isStop f) at (endFrom (at + samplesOfFrame f) fs)
+
+-- what step n reports: the frame due at it, as frame or stop, or ran out with no frame, else nothing
+unfoldable pub reportFrom : ℕ → List Frame → ℕ → Report
+reportFrom at [] n = cond (eqb n at) RanOut Nothing
+reportFrom at (f ∷ fs) n = cond (eqb n at) (begins f) (cond (isStop f) Nothing (reportFrom (at + samplesOfFrame f) fs n))
+
+-- after n steps the chip talks: exactly before the step of the stop or of running out
+abbrev pub talksFrom : ℕ → List Frame → ℕ → Bool
+talksFrom at fs n = ltb n (endFrom at fs)
+
+-- after n steps the frames have run out: there is no stop among them, and the end is reached
+abbrev pub outFrom : ℕ → List Frame → ℕ → Bool
+outFrom at fs n = not (hasStop (frameCode pitchBits) fs) && leb (endFrom at fs) n
+
+-- the position after n steps, where the frames stand from bit `start` on in an image that ends at bit `end`: past the bits of
+-- the frames due so far, or the image's end after running out
+abbrev pub positionFrom : ℕ → ℕ → ℕ → List Frame → ℕ → ℕ
+positionFrom at start end fs n = cond (outFrom at fs n) end (start + totalBits (dueFrom at fs n))
+
+-- ---- the first frame is due at step 1, and so a frame at 1 plus the samples of the frames before it
+
+abbrev pub endStep : List Frame → ℕ
+endStep = endFrom 1
+
+abbrev pub reportAt : List Frame → ℕ → Report
+reportAt = reportFrom 1
+
+abbrev pub talksAfter : List Frame → ℕ → Bool
+talksAfter = talksFrom 1
+
+abbrev pub positionAfter : ℕ → ℕ → List Frame → ℕ → ℕ
+positionAfter = positionFrom 1
