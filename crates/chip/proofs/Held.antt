@@ -5,14 +5,12 @@ use mathlib.Core.List.{List, [], _∷_, _++_, append-assoc, append-nil}
 use Prim.Native.Nat.{ℕ, _+_, _*_, _-_, _/_, _%_, _<_, _≤_}
 use native.Mathlib.Numerals.{add-one}
 use native.Mathlib.Omega.{arith}
-use lib.ListN.{length, take, drop, set, replicate, length-append, length-take, length-drop}
+use lib.ListN.{length, take, drop, replicate, length-append, length-take, length-drop}
 use lib.Seq.{take-suc-set, take-add, take-append-le, drop-append-le, drop-append-add, drop-drop, length-take-le}
 use Rattle.rom.specs.Bits.{digits}
 use Rattle.rom.proofs.Encoding.{length-digits}
 use Rattle.chip.specs.Types.{Mode, Idle, Rom, Waiting, External, Fifo}
-use Rattle.chip.specs.State.{fifoSize}
-use Rattle.chip.specs.Validity.{leastLevel, mostLevel, mostUsed}
-use Rattle.chip.specs.Buffer.{appended, usedUp, bitsOfBytes, heldBits}
+use Rattle.chip.specs.Buffer.{bitsOfBytes}
 use Rattle.chip.specs.Laws.{HeldLength, HeldAppended, HeldUsed}
 use Rattle.chip.proofs.Ranges.{FifoRanges, fifo-ranges}
 

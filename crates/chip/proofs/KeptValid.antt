@@ -1,28 +1,28 @@
 -- A valid chip stays valid on the bus.
 -- Assumes nothing.
-use mathlib.Core.Path.{_≡_, refl, sym, ap, _∙_, subst}
-use mathlib.Core.Bool.{Bool, true, false, not, cond, _&&_, _||_}
+use mathlib.Core.Path.{_≡_, refl, subst}
+use mathlib.Core.Bool.{Bool, true, false, cond}
 use mathlib.Core.List.{List, [], _∷_}
-use Prim.Native.Nat.{ℕ, zero, suc, _+_, _*_, _/_, _%_, _^_, _≤_, _<_}
+use Prim.Native.Nat.{ℕ, zero, suc, _+_, _*_, _/_, _%_, _≤_, _<_}
 use native.Mathlib.Numerals.{add-one}
 use native.Mathlib.Omega.{arith}
 use borrow.Author.Tests.{leb-true, eqb-true, eqb-false, not-false}
-use lib.Dec.{eqb, leb}
-use lib.ListN.{length, drop, set, getD, length-set}
+use lib.Dec.{eqb}
+use lib.ListN.{length, drop, set, length-set}
 use Rattle.base.proofs.Booleans.{both-true}
 use Rattle.rom.specs.Bits.{imageLimit}
 use Rattle.rom.proofs.Checks.{valid-length}
 use Rattle.sound.specs.State.{soundValid, restSound, atRest}
-use Rattle.chip.specs.Types.{Mode, Idle, Rom, Waiting, External, Place, Fifo, Port, Clock, Control, Chip, Command, Nothing, ReadByte, ReadAndBranch, LoadAddress, Speak, SpeakExternal, Reset}
-use Rattle.chip.specs.State.{positionLimit, fifoSize, startLevel, addressLimit, romSize, emptyFifo, started, powerUp, withPlace, withPort, withFifo, withMode, talking}
-use Rattle.chip.specs.Validity.{isIdle, speaks, placeValid, allZero, fifoValid, portValid, clockValid, controlValid, valid, mostLevel, leastLevel, mostUsed}
-use Rattle.chip.specs.Addresses.{loaded, pastByte, branched, branchAddress, restarted, withNibble}
+use Rattle.chip.specs.Types.{Mode, Idle, Rom, Waiting, External, Place, Fifo, Port, Chip, Command, Nothing, ReadByte, ReadAndBranch, LoadAddress, Speak, SpeakExternal, Reset}
+use Rattle.chip.specs.State.{positionLimit, startLevel, addressLimit, started, powerUp, withPlace, withPort, withFifo, talking}
+use Rattle.chip.specs.Validity.{placeValid, allZero, fifoValid, portValid, clockValid, controlValid, valid, mostLevel, leastLevel, mostUsed}
+use Rattle.chip.specs.Addresses.{loaded, pastByte, branched, restarted, withNibble}
 use Rattle.chip.specs.Buffer.{appended}
 use Rattle.chip.specs.Commands.{commandOf, isReset, noData, dataDropped, dataTaken, obeyed}
-use Rattle.chip.specs.Write.{beyondAt, beyond, writeFault, buffered, writtenIn, notWritten, writeOf}
-use Rattle.chip.specs.Read.{acknowledgedPort, readFault, notAcknowledged, acknowledgeOf, readOf}
+use Rattle.chip.specs.Write.{beyondAt, beyond, writeFault, buffered, writtenIn, writeOf}
+use Rattle.chip.specs.Read.{acknowledgedPort, acknowledgeOf, readOf}
 use Rattle.chip.specs.Laws.{PowerUpValid, WriteKeepsValid, AcknowledgeKeepsValid, ReadKeepsValid}
-use Rattle.chip.proofs.Ranges.{ControlRanges, ChipRanges, FifoRanges, chip-ranges, in-ranges, control-ranges, place-ranges, place-in-range, fifo-ranges, fifo-in-range}
+use Rattle.chip.proofs.Ranges.{ChipRanges, FifoRanges, chip-ranges, in-ranges, place-ranges, place-in-range, fifo-ranges, fifo-in-range}
 use Rattle.chip.proofs.Writing.{Found, found, found-ranges}
 
 pub rest-sound-valid : soundValid restSound ≡ true

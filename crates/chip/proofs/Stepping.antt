@@ -1,20 +1,20 @@
 -- What a step and a run answer, by their fault, and what one without a fault finds.
 -- Assumes nothing.
-use mathlib.Core.Path.{_≡_, refl, sym, ap, _∙_}
+use mathlib.Core.Path.{_≡_, refl, ap}
 use mathlib.Core.Bool.{Bool, true, false, not, cond}
 use mathlib.Core.List.{List}
 use Prim.Native.Nat.{ℕ}
 use lib.Dec.{eqb}
 use lib.IntN.{ℤ}
 use lib.ListN.{length}
-use borrow.Author.Tests.{eq-eqb, eqb-true, eqb-false, not-false}
+use borrow.Author.Tests.{eqb-true, eqb-false, not-false}
 use Rattle.base.specs.Steps.{stateAfter, outputs}
 use Rattle.base.proofs.Faults.{answered, refused-with, none-first}
 use Rattle.rom.specs.Bits.{imageValid}
 use Rattle.voice.specs.Check.{voiceFault, version}
 use Rattle.voice.specs.Layout.{pitches}
 use Rattle.sound.specs.declared.sample.Sampled.{Sampled}
-use Rattle.chip.specs.Types.{Chip, Moved, Report, NoReport, Stepped, Ran}
+use Rattle.chip.specs.Types.{Chip, Moved, Report, Stepped}
 use Rattle.chip.specs.Validity.{valid}
 use Rattle.chip.specs.Advance.{advanced}
 use Rattle.chip.specs.Step.{reportOf, sounded, steps, stepFault, notStepped, stepOf}

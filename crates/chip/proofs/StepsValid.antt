@@ -1,13 +1,13 @@
 -- A valid chip steps to a valid chip.
 -- Assumes nothing.
-use mathlib.Core.Path.{_≡_, refl, sym, ap, _∙_, subst}
-use mathlib.Core.Bool.{Bool, true, false, cond, _||_, false≢true}
+use mathlib.Core.Path.{_≡_, refl, ap, subst}
+use mathlib.Core.Bool.{Bool, true, false, cond, _||_}
 use mathlib.Core.List.{List, [], _∷_, _++_}
 use Prim.Native.Nat.{ℕ, zero, suc, _+_, _-_, _*_, _/_, _%_, _≤_, _<_}
 use native.Mathlib.Omega.{arith}
 use borrow.Author.Tests.{le-leb, ltb-true, eqb-true}
 use lib.Dec.{eqb, ltb}
-use lib.ListN.{length, take, drop, replicate, length-append, length-drop, length-replicate}
+use lib.ListN.{length, drop, replicate, length-append, length-drop, length-replicate}
 use lib.Seq.{drop-drop}
 use Rattle.base.proofs.Booleans.{both-true}
 use Rattle.base.proofs.Steps.{after-keeps}
@@ -22,11 +22,10 @@ use Rattle.voice.specs.Check.{voiceFault, version}
 use Rattle.voice.specs.Layout.{pitches}
 use Rattle.sound.specs.State.{soundValid, restSound, atRest}
 use Rattle.sound.specs.Interpolation.{interpolated}
-use Rattle.sound.specs.Targets.{withTargets}
 use Rattle.sound.specs.declared.state.Sound.{Sound}
 use Rattle.sound.proofs.Laws.{stays-valid, rest-exactly}
 use Rattle.chip.specs.Types.{Mode, Idle, Rom, Waiting, External, Fifo, Port, Clock, Control, Chip, Action, Silent, Rest, RunOut, Begin, Continue, Moved, Stepped}
-use Rattle.chip.specs.State.{positionLimit, fifoSize, emptyFifo, stopped}
+use Rattle.chip.specs.State.{positionLimit, emptyFifo, stopped}
 use Rattle.chip.specs.Validity.{speaks, isIdle, allZero, fifoValid, portValid, clockValid, valid}
 use Rattle.chip.specs.Buffer.{usedUp}
 use Rattle.chip.specs.Advance.{counted, intervalBegins, frameBegins, raises, changed, taken, ranOut, fromRom, fromFifo, withClock, rested, boundaryIn, advanced}
@@ -35,7 +34,7 @@ use Rattle.chip.specs.Run.{sampleStep, runOf}
 use Rattle.chip.specs.Laws.{StepKeepsValid, RunKeepsValid}
 use Rattle.chip.proofs.Ranges.{ControlRanges, ChipRanges, chip-ranges, in-ranges, place-ranges, place-in-range, fifo-ranges, fifo-in-range}
 use Rattle.chip.proofs.Moving.{held, frame-inside}
-use Rattle.chip.proofs.Stepping.{Passed, passed, no-fault, step-taken}
+use Rattle.chip.proofs.Stepping.{Passed, passed, no-fault}
 
 -- ---- the FIFO with bits gone
 

@@ -1,6 +1,6 @@
 -- What a sample step does to the control, and what it asks of the sound (01, "Sound"). Nothing here depends on a voice file
 -- or on the sound.
-use mathlib.Core.Bool.{Bool, true, false, not, cond, _&&_, _||_}
+use mathlib.Core.Bool.{Bool, not, cond, _&&_, _||_}
 use mathlib.Core.List.{List}
 use Prim.Native.Nat.{ℕ, _+_, _*_, _/_, _%_, max}
 use lib.Dec.{eqb, ltb}
@@ -10,7 +10,7 @@ use Rattle.rom.specs.Reader.{frameAt}
 use Rattle.rom.specs.declared.frames.Frame.{Frame}
 use Rattle.rom.specs.declared.reader.Taken.{Taken}
 use Rattle.rom.specs.declared.reader.Taken.the-variants.{Whole, Cut}
-use Rattle.chip.specs.Types.{Mode, Idle, Rom, Waiting, External, Fifo, Clock, Control, Action, Silent, Rest, RunOut, Begin, Continue, Moved}
+use Rattle.chip.specs.Types.{Mode, Idle, Rom, Waiting, External, Fifo, Clock, Control, Silent, Rest, RunOut, Begin, Continue, Moved}
 use Rattle.chip.specs.State.{emptyFifo, stopped}
 use Rattle.chip.specs.Validity.{speaks}
 use Rattle.chip.specs.Buffer.{usedUp}

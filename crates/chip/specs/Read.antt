@@ -1,6 +1,6 @@
 -- A byte read: the byte that the bus gets, and the acknowledge (01, "Commands, FIFO, status").
-use mathlib.Core.Bool.{Bool, true, false, not, cond}
-use mathlib.Core.List.{List, [], _∷_}
+use mathlib.Core.Bool.{Bool, false, not, cond}
+use mathlib.Core.List.{[], _∷_}
 use Prim.Native.Nat.{ℕ, _+_}
 use lib.Dec.{eqb, leb}
 use Rattle.base.specs.Refusals.{TAKEN, STATE, firstFault, unlessFault}

@@ -1,9 +1,9 @@
 -- A sample step (01, "Sound", "Refusal numbers"): the control moves, and the sound does what it asks.
-use mathlib.Core.Bool.{Bool, not, cond}
+use mathlib.Core.Bool.{not, cond}
 use mathlib.Core.List.{List, [], _∷_}
 use Prim.Native.Nat.{ℕ}
 use lib.Dec.{eqb}
-use lib.IntN.{ℤ, pos}
+use lib.IntN.{pos}
 use Rattle.base.specs.Refusals.{TAKEN, IMAGE, STATE, firstFault, unlessFault}
 use Rattle.rom.specs.Bits.{imageValid}
 use Rattle.rom.specs.Frames.{isStop}

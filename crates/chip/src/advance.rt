@@ -1,16 +1,13 @@
 // What a sample step does to the control, and what it asks of the sound.
 ghost use mathlib.Core.Path.{_≡_};
-ghost use mathlib.Core.Bool.{true, cond};
-ghost use mathlib.Core.List.{_++_};
+ghost use mathlib.Core.Bool.{true};
 ghost use Prim.Native.Nat.{_*_, _≤_, _<_};
-ghost use lib.ListN.{length, take, drop, replicate};
+ghost use lib.ListN.{length, take};
 ghost use Rattle.rom.specs.Bits.{imageLimit};
 ghost use Rattle.rom.specs.Frames.{pitchBits};
 ghost use Rattle.rom.specs.Reader.{frameAt};
 ghost use Rattle.chip.specs.State.{positionLimit, fifoSize};
 ghost use Rattle.chip.specs.Validity.{controlValid};
-ghost use Rattle.chip.specs.Buffer.{usedUp};
-ghost use Rattle.chip.specs.Read.{bufferLow, bufferEmpty};
 ghost use Rattle.chip.specs.Advance.{counted, intervalBegins, frameBegins, raises, changed, taken, ranOut, fromRom, fromFifo, withClock, rested, boundaryIn, advanced};
 use crate::state::Chip;
 use crate::state::Clock;
@@ -70,50 +67,6 @@ impl Clock {
         ensures { λ r. ⌜ r ≡ frameBegins self ⌝ }
     {
         (self.sample.0 == 0) & (self.interval.0 == 0)
-    }
-}
-
-// The bytes from index n on, and zeros after them.
-fn shift(bytes: [u8; 16], n: usize) -> [u8; 16]
-    requires { ⌜ n ≤ 16 ⌝ }
-    ensures { λ r. ⌜ r ≡ drop n bytes ++ replicate n 0 ⌝ }
-{
-    let mut out = [0u8; 16];
-    let mut i = n;
-    while i < 16 {
-        let j = i - n;
-        out[j] = bytes[i];
-        i += 1;
-    }
-    out
-}
-
-impl Fifo {
-    pub fn is_low(self) -> bool
-        ensures { λ r. ⌜ r ≡ bufferLow self ⌝ }
-    {
-        self.level <= Chip::LOW_LEVEL
-    }
-
-    pub fn is_empty(self) -> bool
-        ensures { λ r. ⌜ r ≡ bufferEmpty self ⌝ }
-    {
-        self.level == 0
-    }
-
-    // The FIFO with so many bits of its oldest bytes gone.
-    fn use_up(self, bits: usize) -> Fifo
-        requires { ⌜ (bits ≤ 8 * self .level) × (self .level ≤ fifoSize) ⌝ }
-        ensures { λ r. ⌜ r ≡ usedUp self bits ⌝ }
-    {
-        let n = bits / 8;
-        let old = self.bytes;
-        let bytes = shift(old, n);
-        Fifo {
-            bytes,
-            level: self.level - n as u8,
-            used: (bits % 8) as u8,
-        }
     }
 }
 

@@ -130,7 +130,7 @@ impl Action {
 }
 
 impl Chip {
-    pub fn step_fault(self, image: &[u8], voice: &[u8]) -> u8
+    pub(crate) fn step_fault(self, image: &[u8], voice: &[u8]) -> u8
         ensures { λ r. ⌜ r ≡ stepFault (now (image .entry)) (now (voice .entry)) self ⌝ }
     {
         let image_ok = image_valid(image);
@@ -149,7 +149,7 @@ impl Chip {
     }
 
     // A step whose checks have passed.
-    pub fn take_step(self, image: &[u8], voice: &[u8]) -> Stepped
+    pub(crate) fn take_step(self, image: &[u8], voice: &[u8]) -> Stepped
         requires { ⌜ stepFault (now image) (now voice) self ≡ 0 ⌝ }
         ensures { λ r. ⌜ r ≡ steps (now (image .entry)) (now (voice .entry)) self ⌝ }
     {
@@ -161,11 +161,12 @@ impl Chip {
         let action = moved.action;
         let sampled = action.apply(before, voice, clock);
         let sound = sampled.sound;
+        let value = sampled.value;
         let report = action.report();
         Stepped {
             chip: Chip { control, sound },
             refusal: TAKEN,
-            sample: sampled.value,
+            sample: value,
             report,
         }
     }

@@ -3,10 +3,11 @@
 -- Assumes nothing.
 use mathlib.Core.Path.{_≡_, refl, sym}
 use mathlib.Core.Bool.{Bool, true, false, not, cond}
-use mathlib.Core.List.{List}
+use mathlib.Core.List.{List, [], _∷_}
 use Prim.Native.Nat.{ℕ}
 use borrow.Author.Tests.{eqb-true}
 use lib.Dec.{eqb}
+use Rattle.base.specs.Refusals.{WAIT, BEYOND, firstFault}
 use Rattle.base.specs.Steps.{stateAfter}
 use Rattle.rom.specs.Bits.{imageValid}
 use Rattle.chip.specs.State.{withPort}
@@ -42,7 +43,9 @@ module _ (image voice : List ℕ) (c : Chip) (i : imageValid image ≡ true) (v 
   run-by-voice n e = rw (step-fault, e)
 
 pub write-fault : (image : List ℕ) (c : Chip) (b : ℕ) → imageValid image ≡ true → valid c ≡ true
-    → writeFault image c b ≡ cond (waits (c .control .mode) (c .control .fifo .level) (commandOf b)) 1 (cond (beyond (c .control .mode) image (c .control .place .position) (commandOf b)) 2 0)
+    → writeFault image c b
+    ≡ firstFault ((waits (c .control .mode) (c .control .fifo .level) (commandOf b), WAIT) ∷
+    (beyond (c .control .mode) image (c .control .place .position) (commandOf b), BEYOND) ∷ [])
 unfolding writeFault
 write-fault image c b i v = rw (i, v)
 

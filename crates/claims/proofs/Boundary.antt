@@ -1,7 +1,7 @@
 -- A step of the control, by the clock: within a frame, and at a frame boundary.
 -- Assumes nothing.
 use mathlib.Core.Path.{_≡_, refl, ap, _∙_}
-use mathlib.Core.Bool.{Bool, true, false, _&&_}
+use mathlib.Core.Bool.{Bool, true, false}
 use mathlib.Core.List.{List}
 use Prim.Native.Nat.{ℕ, _+_, _*_, _%_, _<_}
 use native.Mathlib.Omega.{arith}
@@ -17,7 +17,6 @@ use Rattle.chip.specs.declared.state.Mode.the-variants.{Rom}
 use Rattle.chip.specs.declared.state.Clock.{Clock}
 use Rattle.chip.specs.declared.state.Control.{Control}
 use Rattle.chip.specs.declared.advance.Action.the-variants.{Silent, Continue}
-use Rattle.chip.specs.declared.advance.Moved.{Moved}
 
 -- ---- the clock
 

@@ -1,9 +1,9 @@
 -- The core: a chip that is ready takes Speak, and every list of calls then gets the answers that are due.
--- Assumes, as a parameter, that a valid chip steps to a valid chip.
+-- Assumes nothing.
 use mathlib.Core.Path.{_≡_, refl, sym, ap, ap₂, _∙_, subst, subst₂}
-use mathlib.Core.Bool.{Bool, true, false, not, cond}
+use mathlib.Core.Bool.{Bool, true, false}
 use mathlib.Core.List.{List, [], _∷_}
-use Prim.Native.Nat.{ℕ, zero, suc, _+_, _*_, _≤_, _<_}
+use Prim.Native.Nat.{ℕ, zero, suc, _+_, _*_, _≤_}
 use native.Mathlib.Nat.{add-zero}
 use native.Mathlib.Omega.{arith}
 use borrow.Author.Tests.{eqb-true, eq-eqb, le-leb}
@@ -24,14 +24,13 @@ use Rattle.chip.specs.declared.state.Chip.{Chip}
 use Rattle.chip.specs.declared.commands.Command.the-variants.{Speak}
 use Rattle.chip.specs.declared.write.Written.{Written}
 use Rattle.chip.specs.declared.run.Ran.{Ran}
-use Rattle.chip.specs.declared.step.Report.{Report}
 use Rattle.chip.specs.declared.step.Stepped.{Stepped}
 use Rattle.chip.proofs.Ranges.{valid-fifo}
 use Rattle.chip.proofs.Writing.{write-refused}
 use Rattle.chip.proofs.KeptValid.{write-keeps-valid, read-keeps-valid}
 use Rattle.chip.proofs.StepsValid.{step-keeps-valid}
 use Rattle.claims.specs.Schedule.{reportAt, talksAfter}
-use Rattle.claims.specs.Demand3.{faultOf, Call, step, run, read, write, Answer, chipAfter, answerOf, answersOf, stepsIn, positionDue, writeDue, answerDue, answersDue, Refused, WritesRefused, Core}
+use Rattle.claims.specs.Demand3.{faultOf, Call, step, run, read, write, Answer, chipAfter, refusalOf, byteOf, reportOf, answerOf, answersOf, stepsIn, writeDue, refusalDue, byteDue, reportDue, answerDue, answersDue, Refused, WritesRefused, Core}
 use Rattle.claims.proofs.Chain.{Chain, chain-there}
 use Rattle.claims.proofs.Commanded.{obeys}
 use Rattle.claims.proofs.Boundary.{Tick}
@@ -85,17 +84,18 @@ module _ (image : List ℕ) (i : imageValid image ≡ true) (a : ℕ) (fs : List
 
   -- ---- one call
 
-  -- the answer is the one that is due, and the chip is the one after so many steps
+  -- what is answered is what is due, and the chip handed back is the one after so many steps
   record Answered (n : ℕ) (c : Chip) (x : Call) : Type 0 where
-    answer : answerOf image c x ≡ answerDue image a fs n x
+    refusal : refusalOf image c x ≡ refusalDue image a fs n x
+    byte : byteOf c x ≡ byteDue image a fs n x
+    report : reportOf image c x ≡ reportDue image a fs n x
     after : Speaking (n + stepsIn x) (chipAfter image c x)
+
+  answer : {n : ℕ} {c : Chip} {x : Call} → Answered n c x → answerOf image c x ≡ answerDue image a fs n x
+  answer h = λ j. record { refusal = h .refusal j; byte = h .byte j; report = h .report j; position = state-position (h .after .state) j }
 
   stays : {n : ℕ} {c : Chip} → Speaking n c → Speaking (n + 0) c
   stays {n} s = rw (add-zero n) s
-
-  same-answer : {r r′ b b′ p p′ : ℕ} {e e′ : Report} → r ≡ r′ → b ≡ b′ → e ≡ e′ → p ≡ p′
-      → _≡_ {A = Answer} (record { refusal = r; byte = b; report = e; position = p }) (record { refusal = r′; byte = b′; report = e′; position = p′ })
-  same-answer h k e q = λ j. record { refusal = h j; byte = k j; report = e j; position = q j }
 
   -- a step with a voice file that is valid, or not
   on-step : {n : ℕ} {c : Chip} (voice : List ℕ) → Speaking n c → Answered n c (step voice)
@@ -105,68 +105,61 @@ module _ (image : List ℕ) (i : imageValid image ≡ true) (a : ℕ) (fs : List
       go true e =
           let g = eqb-true (faultOf voice) 0 e in
           let h = speaking-step voice g s in
-          record {
-            answer = same-answer (h .refusal ∙ sym g) refl (h .report ∙ sym (cond-true _ _ _ e)) (state-position (h .after .state) ∙ ap (λ (m : ℕ). positionDue image a fs (n + m)) (sym (cond-true _ 1 0 e)));
-            after = rw e (h .after);
-          }
+          record { refusal = h .refusal ∙ sym g; byte = refl; report = h .report ∙ sym (cond-true _ _ _ e); after = rw e (h .after) }
       go false e =
           let is : stepOf image voice c ≡ notStepped c (faultOf voice) = step-by-voice image voice c i (s .is-valid) e in
           record {
-            answer =
-                same-answer (ap (λ (x : Stepped). x .refusal) is) refl (ap (λ (x : Stepped). x .report) is ∙ sym (cond-false _ _ _ e))
-                (ap (λ (x : Stepped). x .chip .control .place .position) is ∙ state-position (stays s .state) ∙ ap (λ (m : ℕ). positionDue image a fs (n + m)) (sym (cond-false _ 1 0 e)));
+            refusal = ap (λ (x : Stepped). x .refusal) is;
+            byte = refl;
+            report = ap (λ (x : Stepped). x .report) is ∙ sym (cond-false _ _ _ e);
             after = rw e (subst (λ (x : Stepped). Speaking (n + 0) (x .chip)) (sym is) (stays s));
           }
 
   on-run : {n : ℕ} {c : Chip} (voice : List ℕ) (m : ℕ) → Speaking n c → Answered n c (run voice m)
   on-run {n} {c} voice m s = go (eqb (faultOf voice) 0) refl
     where
-      finish : (d : ℕ) (r : Ran) → stepsIn (run voice m) ≡ d → runOf image voice c m ≡ r → r .refusal ≡ faultOf voice → Speaking (n + d) (r .chip)
+      -- by what the run is, after d steps
+      ran : (d : ℕ) (r : Ran) → stepsIn (run voice m) ≡ d → runOf image voice c m ≡ r → r .refusal ≡ faultOf voice → Speaking (n + d) (r .chip)
           → Answered n c (run voice m)
-      finish d r e is f z =
-          record {
-            answer =
-                same-answer (ap (λ (x : Ran). x .refusal) is ∙ f) refl refl
-                (ap (λ (x : Ran). x .chip .control .place .position) is ∙ state-position (z .state) ∙ ap (λ (y : ℕ). positionDue image a fs (n + y)) (sym e));
-            after = subst₂ (λ (y : ℕ) (x : Ran). Speaking (n + y) (x .chip)) (sym e) (sym is) z;
-          }
+      ran d r e is f z = record {
+        refusal = ap (λ (x : Ran). x .refusal) is ∙ f;
+        byte = refl;
+        report = refl;
+        after = subst₂ (λ (y : ℕ) (x : Ran). Speaking (n + y) (x .chip)) (sym e) (sym is) z;
+      }
 
       go : (t : Bool) → eqb (faultOf voice) 0 ≡ t → Answered n c (run voice m)
       go true e =
           let g = eqb-true (faultOf voice) 0 e in
-          finish m _ (cond-true _ m 0 e) (run-by-voice image voice c i (s .is-valid) m e) (sym g) (speaking-steps m voice g s)
-      go false e = finish 0 _ (cond-false _ m 0 e) (run-by-voice image voice c i (s .is-valid) m e) refl (stays s)
+          ran m _ (cond-true _ _ _ e) (run-by-voice image voice c i (s .is-valid) m e) (sym g) (speaking-steps m voice g s)
+      go false e = ran 0 _ (cond-false _ _ _ e) (run-by-voice image voice c i (s .is-valid) m e) refl (stays s)
 
   -- a byte that the table refuses there
-  refused-byte : {n : ℕ} {c : Chip} (b : ℕ) → Speaking n c → (writeDue image a fs n b ≡ 0 → ⊥)
-      → writeOf image c b ≡ record { chip = c; refusal = writeDue image a fs n b }
-  refused-byte {n} {c} b s g =
-      let k = c .control in
-      let number : writeFault image c b ≡ writeDue image a fs n b =
-      write-fault image c b i (s .is-valid) ∙ rw (state-mode (s .state), s .still .level, state-position (s .state)) in
-      sym (write-refused image c b (sym number) g)
-
   on-write : {n : ℕ} {c : Chip} (b : ℕ) → Speaking n c → (writeDue image a fs n b ≡ 0 → ⊥) → Answered n c (write b)
   on-write {n} {c} b s g =
-      let is = refused-byte b s g in
+      let is = sym (write-refused image c b (sym number) g) in
       record {
-        answer =
-            same-answer (ap (λ (r : Written). r .refusal) is) refl refl
-            (ap (λ (r : Written). r .chip .control .place .position) is ∙ state-position (stays s .state));
-        after = subst (λ (r : Written). Speaking (n + 0) (r .chip)) (sym is) (stays s);
+        refusal = ap (λ (x : Written). x .refusal) is;
+        byte = refl;
+        report = refl;
+        after = subst (λ (x : Written). Speaking (n + 0) (x .chip)) (sym is) (stays s);
       }
+    where
+      number : writeFault image c b ≡ writeDue image a fs n b
+      number = write-fault image c b i (s .is-valid) ∙ rw (state-mode (s .state), s .still .level, state-position (s .state))
 
   on-read : {n : ℕ} {c : Chip} → Speaking n c → Answered n c read
   on-read {n} {c} s =
+      let is = read-chip c (s .is-valid) in
       record {
-        answer =
-            same-answer (read-taken c (s .is-valid))
-            (read-status c (s .is-valid) (s .still .pending) ∙ status-is (talksAfter fs n) (c .control) (state-mode (s .state)) (s .still .level)) refl
-            (ap (λ (x : Chip). x .control .place .position) (read-chip c (s .is-valid)) ∙ state-position (stays s .state));
+        refusal = read-taken c (s .is-valid);
+        byte =
+            read-status c (s .is-valid) (s .still .pending) ∙ status-is (talksAfter fs n) (c .control) (state-mode (s .state)) (s .still .level);
+        report = refl;
         after = stays (record {
           is-valid = read-keeps-valid c (s .is-valid);
-          state = rw (read-chip c (s .is-valid)) (s .state);
-          still = rw (read-chip c (s .is-valid)) (record { level = s .still .level; pending = still-none (c .control .port) (s .still .pending) });
+          state = rw is (s .state);
+          still = rw is (record { level = s .still .level; pending = still-none (c .control .port) (s .still .pending) });
         });
       }
 
@@ -183,7 +176,7 @@ module _ (image : List ℕ) (i : imageValid image ≡ true) (a : ℕ) (fs : List
   on-calls [] s g = refl
   on-calls (x ∷ xs) s g =
       let h = on-call x s (g .0) in
-      ap₂ (λ (y : Answer) (ys : List Answer). y ∷ ys) (h .answer) (on-calls xs (h .after) (g .1))
+      ap₂ (λ (y : Answer) (ys : List Answer). y ∷ ys) (answer h) (on-calls xs (h .after) (g .1))
 
 starts : Tick started 0
 starts = record { sounding = refl; sample = omega arith; interval = omega arith; count = refl }

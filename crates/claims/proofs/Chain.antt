@@ -1,6 +1,6 @@
 -- The frames that stand at an address, read one after another.
 -- Assumes nothing.
-use mathlib.Core.Path.{_≡_, refl, sym, _∙_, subst}
+use mathlib.Core.Path.{_≡_, refl, subst}
 use mathlib.Core.Bool.{Bool, true, false, cond}
 use mathlib.Core.List.{List, [], _∷_}
 use Prim.Native.Nat.{ℕ, zero, suc, _+_, _*_, _≤_, _<_}
@@ -66,7 +66,8 @@ module _ (image : List ℕ) where
           more (subst (λ (q : ℕ). frameAt pitchBits image p ≡ Whole f q) (a .is) e) t
           (subst (λ (q : ℕ). Chain image q (framesFrom pitchBits image next n)) (a .is) (ih next (omega (arith, a .further)) (a .inside)))
 
-      go : Chained n → (r : Taken) → frameAt pitchBits image p ≡ r → Chain image p (itemsOf (frameCode pitchBits) (readOf r) (λ next. framesFrom pitchBits image next n))
+      go : Chained n → (r : Taken) → frameAt pitchBits image p ≡ r
+          → Chain image p (itemsOf (frameCode pitchBits) (readOf r) (λ next. framesFrom pitchBits image next n))
       go ih (Whole f next) e = by-stop ih e (isStop f) refl
       go ih Cut e = cut e l
 

@@ -7,12 +7,10 @@ use Prim.Native.Nat.{ℕ}
 use Rattle.rom.specs.Bits.{imageValid}
 use Rattle.chip.specs.Validity.{valid}
 use Rattle.chip.specs.Commands.{commandOf, obeyed}
-use Rattle.chip.specs.Write.{waits, beyond, beyondAt, writeFault, writeOf}
-use Rattle.chip.specs.declared.state.Mode.{Mode}
+use Rattle.chip.specs.Write.{beyondAt, writeFault, writeOf}
 use Rattle.chip.specs.declared.state.Mode.the-variants.{Idle}
 use Rattle.chip.specs.declared.state.Chip.{Chip}
 use Rattle.chip.specs.declared.commands.Command.{Command}
-use Rattle.chip.specs.declared.write.Written.{Written}
 use Rattle.chip.proofs.Writing.{in-mode, write-taken}
 
 -- a command that is not beyond the image is taken and obeyed

@@ -1,22 +1,19 @@
 -- Demand 3 holds.
--- Assumes, as a parameter, that a valid chip steps to a valid chip.
+-- Assumes nothing.
 use mathlib.Core.Path.{_≡_, refl, sym, ap, ap₂, _∙_}
-use mathlib.Core.Bool.{Bool, true, false, cond}
+use mathlib.Core.Bool.{true}
 use mathlib.Core.List.{List, [], _∷_, _++_}
-use Prim.Native.Nat.{ℕ, _+_, _*_, _≤_, _<_}
+use Prim.Native.Nat.{ℕ, _+_, _*_, _≤_}
 use native.Mathlib.Omega.{arith}
 use borrow.Author.Tests.{le-leb}
-use lib.Dec.{leb}
-use lib.ListN.{length}
-use Rattle.rom.specs.Bits.{imageValid}
-use Rattle.rom.specs.Frames.{pitchBits, isStop}
+use Rattle.rom.specs.Frames.{pitchBits}
 use Rattle.rom.specs.Items.{Ended, last, more, hasStop}
-use Rattle.rom.specs.Phrases.{frameCode, PhraseAt, walkOf, framesAt}
+use Rattle.rom.specs.Phrases.{frameCode, PhraseAt, framesAt}
 use Rattle.rom.specs.declared.frames.Frame.{Frame}
 use Rattle.rom.specs.declared.phrases.Walked.{Walked}
 use Rattle.rom.proofs.Theorems.{walk-accepts, walk-counts, phrase-unique, frames-read}
 use Rattle.claims.specs.Schedule.{samplesOfFrame, totalBits, dueFrom, endFrom, endStep}
-use Rattle.claims.specs.Demand3.{positionDue, AtAddress, Demand3}
+use Rattle.claims.specs.Demand3.{positionDue, Demand3}
 use Rattle.claims.proofs.Opening.{opening}
 use Rattle.claims.proofs.Calls.{core}
 

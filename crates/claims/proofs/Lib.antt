@@ -1,4 +1,5 @@
 pub mod Computed
+pub mod Numbers
 pub mod Chain
 pub mod Boundary
 pub mod Progress

@@ -1,14 +1,13 @@
 -- The opening: power-up takes five loads, and the position is then the address's first bit.
 -- Assumes nothing.
 use mathlib.Core.Path.{_≡_, refl, sym, ap, ap₂, _∙_, subst}
-use mathlib.Core.Bool.{true, false, _&&_, _||_}
+use mathlib.Core.Bool.{true}
 use mathlib.Core.List.{List, [], _∷_, map}
 use Prim.Native.Nat.{ℕ, _+_, _*_, _/_, _%_, _^_, _≤_, _<_}
 use native.Mathlib.Nat.{mod-eq-of-lt, div-eq-of-lt, mod-lt, mul-le-mul-right, zero-mul, zero-add}
 use native.Mathlib.Omega.{arith}
 use borrow.Author.Tests.{le-leb}
 use lib.Arith.{mod-mul}
-use lib.ListN.{length}
 use Rattle.rom.specs.Bits.{imageValid}
 use Rattle.rom.proofs.Checks.{valid-length}
 use Rattle.sound.specs.State.{soundValid, atRest}
@@ -21,7 +20,7 @@ use Rattle.chip.specs.declared.state.Chip.{Chip}
 use Rattle.chip.specs.declared.commands.Command.the-variants.{LoadAddress}
 use Rattle.chip.specs.declared.write.Written.{Written}
 use Rattle.claims.specs.Writes.{afterBytes, refusalsOf}
-use Rattle.claims.specs.Demand3.{Loads, loadBytes, Ready, Opening}
+use Rattle.claims.specs.Demand3.{loadBytes, Ready, Opening}
 use Rattle.claims.proofs.Commanded.{obeys}
 
 -- power-up, at another place

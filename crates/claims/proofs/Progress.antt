@@ -1,16 +1,15 @@
 -- The progress of a chip that speaks from ROM after n steps, and that its mode and position are those that are due.
 -- Assumes nothing.
 use mathlib.Core.Path.{_≡_, refl, _∙_}
-use mathlib.Core.Bool.{Bool, true, false, not, cond, _&&_}
+use mathlib.Core.Bool.{Bool, true, false, cond, _&&_}
 use mathlib.Core.List.{List, [], _∷_}
 use Prim.Native.Nat.{ℕ, _+_, _-_, _%_, _≤_, _<_}
 use native.Mathlib.Nat.{add-assoc, add-zero}
 use native.Mathlib.Omega.{arith}
 use borrow.Author.Tests.{le-leb, lt-leb, lt-ltb, le-ltb}
-use lib.Dec.{leb, ltb}
-use lib.ListN.{length, length-append}
+use lib.ListN.{length-append}
 use Rattle.rom.specs.Frames.{pitchBits, bitsOf, isStop}
-use Rattle.rom.specs.Items.{bitsAll, hasStop}
+use Rattle.rom.specs.Items.{bitsAll}
 use Rattle.rom.specs.Phrases.{frameCode}
 use Rattle.rom.specs.declared.frames.Frame.{Frame}
 use Rattle.chip.specs.declared.state.Mode.{Mode}

@@ -132,10 +132,15 @@ module _ (image : List ℕ) {k : Control} (still : Still k) where
       subst (Next image at p n []) (sym (stays-silent image k t))
       (record { report = sym (rw (ne-eqb (n + 1) at (omega arith))); state = out (omega arith) m q t; still = still })
 
-  after-frame : {at p n : ℕ} {f : Frame} {fs : List Frame} → isStop f ≡ false → at ≤ n → Steps (at + samplesOfFrame f) (p + width f) n fs → Steps at p n (f ∷ fs)
+  after-frame : {at p n : ℕ} {f : Frame} {fs : List Frame} → isStop f ≡ false → at ≤ n
+      → Steps (at + samplesOfFrame f) (p + width f) n fs → Steps at p n (f ∷ fs)
   unfolding reportFrom
   after-frame {at} {p} {n} {f} {fs} s l h =
-      record { report = h .report ∙ sym (rw (ne-eqb (n + 1) at (omega arith), s)); state = past {at = at} {n = n + 1} s (omega arith) (h .state); still = h .still }
+      record {
+        report = h .report ∙ sym (rw (ne-eqb (n + 1) at (omega arith), s));
+        state = past {at = at} {n = n + 1} s (omega arith) (h .state);
+        still = h .still;
+      }
 
   -- a step, wherever the control stands
   pub next : {at p n : ℕ} {fs : List Frame} → Chain image p fs → State (8 * length image) at p fs n (progressOf k) → Steps at p n fs

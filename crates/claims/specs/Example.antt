@@ -8,7 +8,6 @@ use Rattle.rom.specs.Frames.{pitchBits}
 use Rattle.rom.specs.Phrases.{FramesThere}
 use Rattle.rom.specs.declared.frames.Frame.{Frame}
 use Rattle.rom.specs.declared.frames.Frame.the-variants.{Silence, Stop, Repeat}
-use Rattle.chip.specs.Commands.{commandOf}
 use Rattle.chip.specs.declared.step.Report.{Report}
 use Rattle.chip.specs.declared.step.Report.the-variants.{Nothing, Frame as FrameReport, Stop as StopReport, RanOut}
 use Rattle.claims.specs.Demand3.{Loads, SpeakByte, Call, step, run, read, write, Answer, speaking, answersOf, answersDue, WritesRefused}
@@ -44,13 +43,13 @@ pub record Example : Type 0 where
 abbrev answer : ℕ → ℕ → Report → ℕ → Answer
 answer refusal byte report position = record { refusal = refusal; byte = byte; report = report; position = position }
 
--- a phrase: silence, repeat, stop. Step 401, in the second run, is the stop's
+-- a phrase: silence, repeat, stop. Step 401 is the stop's
 abbrev pub phrase : Example
 phrase = record {
   image = 0x03 ∷ 0x83 ∷ 0xE0 ∷ [];
   frames = Silence ∷ Repeat 3 1 ∷ Stop ∷ [];
-  calls = read ∷ write 0x50 ∷ step voice ∷ step [] ∷ run voice 199 ∷ step voice ∷ run voice 199 ∷ read ∷ step voice ∷ read ∷ run [] 7 ∷ write 0x10
-      ∷ run voice 300 ∷ step voice ∷ [];
+  calls = read ∷ write 0x50 ∷ step voice ∷ step [] ∷ run voice 199 ∷ step voice ∷ run voice 199 ∷ read ∷ step voice ∷ read
+      ∷ run [] 7 ∷ write 0x10 ∷ run voice 300 ∷ step voice ∷ [];
   answers = answer TAKEN 0xE0 Nothing 0
       ∷ answer WAIT 0 Nothing 0
       ∷ answer TAKEN 0 (FrameReport Silence) 4

@@ -1,7 +1,8 @@
 -- What is due when (01, "What acceptance reads"), of the frames that stand at an address. Taken sample steps are numbered
 -- from 1. Nothing here speaks of a chip: all is told from the frames and the number of steps.
-use mathlib.Core.Bool.{Bool, not, cond, _&&_}
-use mathlib.Core.List.{List, [], _∷_}
+use mathlib.Core.Path.{_≡_}
+use mathlib.Core.Bool.{Bool, true, false, not, cond, _&&_}
+use mathlib.Core.List.{List, [], _∷_, _++_}
 use Prim.Native.Nat.{ℕ, _+_}
 use lib.Dec.{eqb, leb, ltb}
 use lib.ListN.{length}
@@ -17,6 +18,10 @@ use Rattle.chip.specs.declared.step.Report.the-variants.{Nothing, RanOut}
 -- the samples of a frame: 8 intervals of 25, whatever the frame
 abbrev pub samplesOfFrame : Frame → ℕ
 samplesOfFrame f = samplesOf (intervalsOf (record { 0 = 1 })) .0
+
+abbrev pub totalSamples : List Frame → ℕ
+totalSamples [] = 0
+totalSamples (f ∷ fs) = samplesOfFrame f + totalSamples fs
 
 -- the bits of frames, as many as the table of kinds gives them
 abbrev pub totalBits : List Frame → ℕ
@@ -65,3 +70,17 @@ talksAfter = talksFrom 1
 
 abbrev pub positionAfter : ℕ → ℕ → List Frame → ℕ → ℕ
 positionAfter = positionFrom 1
+
+-- ---- what is proved of it, in 01's words
+
+-- after the frames gs, the next is due at the step numbered 1 plus their samples, and is the end if it is a stop; without a
+-- next, running out is due there, and is the end
+pub record DueAfter (gs : List Frame) : Type 0 where
+  pub frame : (f : Frame) (hs : List Frame) → reportAt (gs ++ (f ∷ hs)) (1 + totalSamples gs) ≡ begins f
+  pub stop : (f : Frame) (hs : List Frame) → isStop f ≡ true → endStep (gs ++ (f ∷ hs)) ≡ 1 + totalSamples gs
+  pub runs-out : reportAt gs (1 + totalSamples gs) ≡ RanOut
+  pub end : endStep gs ≡ 1 + totalSamples gs
+
+-- for all frames of which none is a stop
+abbrev pub Numbered : Type 0
+Numbered = (gs : List Frame) → hasStop (frameCode pitchBits) gs ≡ false → DueAfter gs

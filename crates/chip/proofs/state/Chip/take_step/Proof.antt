@@ -32,4 +32,4 @@ take-step-spec =
     advance-requires
     apply-requires
     (λ c κs. search needs)
-    (λ c. let a = c .before .before .before .before .before .before .before .before .before .before .before .args in steps-is (now (a .image)) (now (a .voice)) (a .self) (c .before .before .before .before .before .advance .ensures) (c .before .before .before .apply .ensures) (c .before .report .ensures) (search needs)))
+    (λ c. let a = c .before .before .before .before .before .before .before .before .before .before .before .args in steps-is (now (a .image)) (now (a .voice)) (a .self) (c .before .before .before .before .before .advance .ensures) (c .before .before .before .apply .ensures) (c .report .ensures) (search needs)))

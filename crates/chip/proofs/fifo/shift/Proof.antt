@@ -1,4 +1,4 @@
--- `chip::advance::shift` meets its contract. The loop's invariant: the bytes passed are moved. Assumes nothing.
+-- `chip::fifo::shift` meets its contract. The loop's invariant: the bytes passed are moved. Assumes nothing.
 use borrow.Author.Needs.{needs}
 use mathlib.Core.Path.{_≡_, ap, _∙_}
 use mathlib.Core.List.{List}
@@ -6,8 +6,8 @@ use Prim.Native.Nat.{ℕ, _≤_, _-_}
 use native.Mathlib.Omega.{arith}
 use lib.ListN.{length, getD, set}
 use Rattle.chip.proofs.Shifting.{partly, shift-none, shift-more, shift-all}
-use Rattle.chip.proofs.advance.shift.Statement.{statement}
-use Rattle.chip.proofs.advance.shift.Tie as tie
+use Rattle.chip.proofs.fifo.shift.Statement.{statement}
+use Rattle.chip.proofs.fifo.shift.Tie as tie
 
 abbrev Inv-loop : tie.InvT-loop
 Inv-loop n bytes out₀ i₀ out i = (n ≤ i) × (i ≤ 16) × (length bytes ≡ 16) × (out ≡ partly bytes n (i - n))
