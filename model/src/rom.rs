@@ -1,0 +1,157 @@
+//! The image: its check, its bits, a frame taken at a bit, the phrase walk.
+
+use crate::frame::*;
+use crate::numbers::*;
+
+// 01: "image length 0 or above 262,144".
+const MOST_IMAGE_BYTES: i64 = 262_144;
+
+/// 01: "IMAGE | image length 0 or above 262,144".
+pub fn image_refusal(image: &[u8]) -> i64 {
+    if length(image) == 0 {
+        return IMAGE;
+    }
+    if length(image) > MOST_IMAGE_BYTES {
+        return IMAGE;
+    }
+    TAKEN
+}
+
+pub fn length(bytes: &[u8]) -> i64 {
+    bytes.len() as i64
+}
+
+/// The image's end as a position in bits.
+/// 01: "The position counts bits".
+pub fn end(image: &[u8]) -> i64 {
+    BYTE * length(image)
+}
+
+/// A byte of the image.
+/// 01: "Bytes follow on across 16,384-byte chips."
+/// No rule asks for a byte outside the image; 0 stands there so that no
+/// altered rule can make the program fall.
+pub fn byte_at(image: &[u8], address: i64) -> i64 {
+    match usize::try_from(address) {
+        Ok(place) => image.get(place).map_or(0, |byte| i64::from(*byte)),
+        Err(_) => 0,
+    }
+}
+
+/// 01: "Bits leave a byte most significant first".
+pub fn rom_bit(image: &[u8], position: i64) -> i64 {
+    bit_of_byte(byte_at(image, floor(position, BYTE)), position.rem_euclid(BYTE))
+}
+
+/// The whole frame at a position of the image with its width, or none.
+pub fn rom_frame(image: &[u8], position: i64) -> Option<(Frame, i64)> {
+    take_frame(&|at| rom_bit(image, at), position, end(image))
+}
+
+/// 01: "A refused call returns [..] zero for each number, no frame".
+pub struct FrameTaken {
+    pub refusal: i64,
+    pub bits: i64,
+    pub frame: Frame,
+}
+
+fn frame_refused(refusal: i64) -> FrameTaken {
+    FrameTaken { refusal, bits: 0, frame: NO_FRAME }
+}
+
+/// "a frame taken at a bit": 01, "The module".
+/// The order of checks is 3, then 2, then 10 (D 49).
+pub fn frame_at(image: &[u8], bit: i64) -> FrameTaken {
+    let refusal = first_refusal(&[
+        &|| image_refusal(image),
+        &|| frame_beyond(image, bit),
+    ]);
+    if refusal != TAKEN {
+        return frame_refused(refusal);
+    }
+    // 01: "NO PHRASE | [..] frame taken: the bits end inside it".
+    let Some((frame, bits)) = rom_frame(image, bit) else {
+        return frame_refused(NO_PHRASE);
+    };
+    FrameTaken { refusal: TAKEN, bits, frame }
+}
+
+/// 01: "BEYOND | [..] frame taken at a bit at or past its end".
+fn frame_beyond(image: &[u8], bit: i64) -> i64 {
+    if bit >= end(image) {
+        return BEYOND;
+    }
+    TAKEN
+}
+
+/// 01: "the number of bits and of frames, and the duration in frames,
+/// intervals (8 each) and samples (200 each)", and the part as two places of
+/// the image, first byte and byte after the last.
+pub struct Walked {
+    pub refusal: i64,
+    pub bits: i64,
+    pub frames: i64,
+    pub intervals: i64,
+    pub samples: i64,
+    pub part_from: i64,
+    pub part_to: i64,
+}
+
+/// 01: "A refused call returns [..] zero for each number, [..] and an empty
+/// part."
+fn walk_refused(refusal: i64) -> Walked {
+    Walked { refusal, bits: 0, frames: 0, intervals: 0, samples: 0, part_from: 0, part_to: 0 }
+}
+
+/// "a phrase walk over an image": 01, "The module".
+pub fn walk(image: &[u8], address: i64) -> Walked {
+    let refusal = first_refusal(&[
+        &|| image_refusal(image),
+        &|| walk_beyond(image, address),
+    ]);
+    if refusal != TAKEN {
+        return walk_refused(refusal);
+    }
+    // 01: "The walk starts at a byte address".
+    let start = BYTE * address;
+    let mut at = start;
+    let mut frames = 0;
+    loop {
+        // 01: "NO PHRASE | walk: the bits end before a stop".
+        let Some((frame, bits)) = rom_frame(image, at) else {
+            return walk_refused(NO_PHRASE);
+        };
+        at += bits;
+        frames += 1;
+        if frame.kind == STOP {
+            break;
+        }
+    }
+    // 01: "intervals (8 each) and samples (200 each)": 25 samples to each
+    // interval.
+    let intervals = frames * INTERVALS_PER_FRAME;
+    let samples = intervals * SAMPLES_PER_INTERVAL;
+    Walked {
+        refusal: TAKEN,
+        bits: at - start,
+        frames,
+        intervals,
+        samples,
+        part_from: address,
+        part_to: byte_of_last_bit(at) + 1,
+    }
+}
+
+/// 01: "BEYOND | [..] walk from an address at or past the image's length".
+fn walk_beyond(image: &[u8], address: i64) -> i64 {
+    if address >= length(image) {
+        return BEYOND;
+    }
+    TAKEN
+}
+
+/// 01: "through the byte with the stop's last bit".
+/// `after` is the position after that bit.
+fn byte_of_last_bit(after: i64) -> i64 {
+    floor(after - 1, BYTE)
+}

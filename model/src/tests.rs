@@ -1,0 +1,1364 @@
+//! Tests: document 01's "Numbers to try", sizes at their bounds, each refusal
+//! number, the order of checks, the traps, the trace format, garbage.
+
+use crate::chip::*;
+use crate::frame::*;
+use crate::numbers::*;
+use crate::rom::*;
+use crate::sound::*;
+use crate::trace::*;
+use crate::voice::*;
+
+// ---------------------------------------------------------------- helpers
+
+/// A valid voice file with this pulse count (1..64). Energy i is 70 i, pitch i
+/// is 16 i, K value j of the 168 is 6 j - 500, pulse p is 100 - 3 p.
+fn voice(count: i64) -> Vec<u8> {
+    let mut file = Vec::new();
+    file.extend(((496 + count) as u16).to_be_bytes());
+    file.push(1);
+    for i in 0..15 {
+        file.extend((70 * i as u16).to_be_bytes());
+    }
+    for i in 0..64 {
+        file.extend((16 * i as u16).to_be_bytes());
+    }
+    for j in 0..168 {
+        file.extend((6 * j as i16 - 500).to_be_bytes());
+    }
+    file.push(count as u8);
+    for p in 0..count {
+        file.push((100 - 3 * p) as u8);
+    }
+    file
+}
+
+fn with(file: &[u8], at: usize, bytes: &[u8]) -> Vec<u8> {
+    let mut changed = file.to_vec();
+    changed[at..at + bytes.len()].copy_from_slice(bytes);
+    changed
+}
+
+/// Bits written as text, blanks ignored, filled up with zeros to bytes.
+fn bits(text: &str) -> Vec<u8> {
+    let digits: Vec<u8> = text.bytes().filter(|c| *c == b'0' || *c == b'1').map(|c| c - b'0').collect();
+    digits
+        .chunks(8)
+        .map(|chunk| (0..8).fold(0, |byte, i| 2 * byte + chunk.get(i).copied().unwrap_or(0)))
+        .collect()
+}
+
+fn writes(image: &[u8], chip: Chip, bytes: &[i64]) -> Chip {
+    let mut chip = chip;
+    for byte in bytes {
+        let answer = write(image, chip, *byte);
+        assert_eq!(answer.refusal, TAKEN, "byte {byte:02x}");
+        chip = answer.chip;
+    }
+    chip
+}
+
+/// Powered up, Speak External, then these bytes.
+fn external(bytes: &[i64]) -> Chip {
+    writes(&[0], writes(&[0], power_up(), &[0x60]), bytes)
+}
+
+/// The status as a read gives it, without reading.
+fn status_of(chip: Chip) -> i64 {
+    let answer = read(chip);
+    assert_eq!(answer.refusal, TAKEN);
+    answer.byte
+}
+
+fn taken(image: &[u8], chip: Chip) -> Stepped {
+    let stepped = step(image, &voice(41), chip);
+    assert_eq!(stepped.refusal, TAKEN);
+    stepped
+}
+
+fn steps(image: &[u8], chip: Chip, count: i64) -> Chip {
+    let mut buffer = vec![9_999; count as usize];
+    let ran = run(image, &voice(41), chip, &mut buffer);
+    assert_eq!(ran.refusal, TAKEN);
+    ran.chip
+}
+
+fn played(script: &[u8]) -> String {
+    let mut out = Vec::new();
+    play(script, &mut out).unwrap();
+    String::from_utf8(out).unwrap()
+}
+
+/// A record with a count and bytes.
+fn counted(letter: u8, bytes: &[u8]) -> Vec<u8> {
+    let mut record = vec![letter];
+    record.extend((bytes.len() as u32).to_le_bytes());
+    record.extend(bytes);
+    record
+}
+
+fn numbered(letter: u8, number: u32) -> Vec<u8> {
+    let mut record = vec![letter];
+    record.extend(number.to_le_bytes());
+    record
+}
+
+fn state_record(numbers: &[i64]) -> Vec<u8> {
+    let mut record = vec![b'S'];
+    for number in numbers {
+        record.extend(number.to_le_bytes());
+    }
+    record
+}
+
+/// A small generator of numbers that look random (xorshift).
+struct Dice(u64);
+
+impl Dice {
+    fn next(&mut self) -> u64 {
+        self.0 ^= self.0 << 13;
+        self.0 ^= self.0 >> 7;
+        self.0 ^= self.0 << 17;
+        self.0
+    }
+    fn below(&mut self, count: u64) -> u64 {
+        (self.next() >> 11) % count
+    }
+    /// From `low` to `high`, the bounds more often than the rest.
+    fn within(&mut self, low: i64, high: i64) -> i64 {
+        match self.below(8) {
+            0 => low,
+            1 => high,
+            _ => low + self.below((high - low + 1) as u64) as i64,
+        }
+    }
+    fn bytes(&mut self, count: usize) -> Vec<u8> {
+        (0..count).map(|_| self.below(256) as u8).collect()
+    }
+    fn values(&mut self) -> Values {
+        let mut values = ZERO_VALUES;
+        values.energy = self.within(0, 1023);
+        values.pitch = self.within(0, 1023);
+        for i in 1..=10 {
+            values.k[i] = self.within(-512, 511);
+        }
+        values
+    }
+    /// Any valid chip, its position mostly within an image of so many bytes.
+    fn chip(&mut self, image_bytes: i64) -> Chip {
+        let mut chip = power_up();
+        chip.mode = self.within(0, 3);
+        chip.position = match self.below(8) {
+            0 => 2_097_152,
+            1 => self.within(0, 2_097_152),
+            _ => self.within(0, 8 * image_bytes),
+        };
+        chip.nibble = self.within(0, 4);
+        chip.interrupt = self.within(0, 1);
+        if chip.mode == IDLE && self.below(2) == 0 {
+            chip.pending = 1;
+            chip.data = self.within(0, 255);
+        }
+        match chip.mode {
+            WAITING => chip.level = self.within(0, 8),
+            EXTERNAL => {
+                chip.level = self.within(1, 16);
+                chip.used = self.within(0, 7);
+            }
+            _ => {}
+        }
+        for i in 0..chip.level as usize {
+            chip.fifo[i] = match self.below(4) {
+                0 => 0,
+                1 => 0xF0,
+                _ => self.within(0, 255),
+            };
+        }
+        if chip.mode == ROM || chip.mode == EXTERNAL || self.below(2) == 0 {
+            chip.sounding = 1;
+            if self.below(2) == 0 {
+                chip.sample = self.within(0, 24);
+                chip.interval = self.within(0, 7);
+            }
+            chip.noise = self.within(1, 8191);
+            chip.place = self.within(0, 1022);
+            chip.currents = self.values();
+            chip.targets = self.values();
+            for i in 1..=10 {
+                chip.memory[i] = self.within(-8192, 8191);
+            }
+        }
+        chip
+    }
+}
+
+// ---------------------------------------------------------------- numbers to try
+
+fn walk_numbers(image: &[u8], address: i64) -> (i64, i64, i64) {
+    let walked = walk(image, address);
+    (walked.refusal, walked.bits, walked.frames)
+}
+
+#[test]
+fn phrases_to_try() {
+    assert_eq!(walk_numbers(&[0xFF], 0), (TAKEN, 4, 1));
+    assert_eq!(walk_numbers(&[0x0F], 0), (TAKEN, 8, 2));
+    assert_eq!(walk_numbers(&[0x00], 0), (NO_PHRASE, 0, 0));
+    assert_eq!(walk_numbers(&[0x1F, 0xFF], 0), (TAKEN, 15, 2));
+    assert_eq!(walk_numbers(&[0x03, 0x83], 0), (NO_PHRASE, 0, 0));
+    assert_eq!(walk_numbers(&[0xFF], 1), (BEYOND, 0, 0));
+}
+
+#[test]
+fn loads_and_branch_to_try() {
+    let chip = writes(&[0], power_up(), &[0x41, 0x42, 0x43, 0x40, 0x40]);
+    // 801 in the paper is 321 hex.
+    assert_eq!(chip.position, 8 * 801);
+    assert_eq!(chip.nibble, 0);
+    let chip = writes(&[0x05, 0xC0], power_up(), &[0x30]);
+    assert_eq!(chip.position, 8 * 5);
+}
+
+fn way(from: i64, to: i64) -> Vec<i64> {
+    let mut current = from;
+    (0..8)
+        .map(|interval| {
+            current = nearer(current, to, interval);
+            current
+        })
+        .collect()
+}
+
+#[test]
+fn ways_to_try() {
+    assert_eq!(way(0, 80), [10, 18, 25, 38, 48, 64, 72, 80]);
+    assert_eq!(way(5, 0), [4, 3, 2, 1, 0, 0, 0, 0]);
+    assert_eq!(way(0, 5), [0, 0, 0, 1, 2, 3, 4, 5]);
+}
+
+#[test]
+fn noise_to_try() {
+    assert_eq!(next_noise(8191), 8190);
+    assert_eq!(next_noise(8190), 8189);
+    assert_eq!(next_noise(8189), 8186);
+}
+
+#[test]
+fn noise_bits() {
+    // Each bit of the register by itself: 12, 3, 2, 0 give a new bit 1.
+    for bit in 0..13 {
+        let new = i64::from([12, 3, 2, 0].contains(&bit));
+        assert_eq!(next_noise(1 << bit), (2 << bit) % 8192 + new, "bit {bit}");
+    }
+    // It never becomes 0, and comes back to 8191.
+    let mut noise = 8191;
+    for _ in 0..8191 {
+        noise = next_noise(noise);
+        assert!((1..=8191).contains(&noise));
+    }
+    assert_eq!(noise, 8191);
+}
+
+#[test]
+fn statuses_to_try() {
+    assert_eq!(status_of(power_up()), 0x60);
+    assert_eq!(status_of(external(&[])), 0x60);
+    assert_eq!(status_of(external(&[0; 1])), 0x40);
+    assert_eq!(status_of(external(&[0; 8])), 0x40);
+    assert_eq!(status_of(external(&[0; 9])), 0x80);
+}
+
+#[test]
+fn nine_ff_to_try() {
+    let chip = external(&[0xFF; 9]);
+    assert_eq!(chip.interrupt, 0);
+    let stepped = taken(&[0], chip);
+    assert_eq!(stepped.report, STOPPED);
+    assert_eq!(stepped.frame, Frame { kind: STOP, energy: 15, ..NO_FRAME });
+    assert_eq!(status_of(stepped.chip), 0x60);
+    assert_eq!(stepped.chip.interrupt, 1);
+    assert_eq!(stepped.chip.sounding, 1);
+}
+
+#[test]
+fn nine_00_to_try() {
+    let image = [0];
+    let chip = steps(&image, external(&[0; 9]), 200);
+    assert_eq!(status_of(chip), 0x80);
+    assert_eq!((chip.level, chip.used, chip.interrupt), (9, 4, 0));
+    let at_201 = taken(&image, chip);
+    assert_eq!(at_201.report, FRAME);
+    assert_eq!(status_of(at_201.chip), 0xC0);
+    assert_eq!((at_201.chip.level, at_201.chip.used, at_201.chip.interrupt), (8, 0, 1));
+    let at_3400 = steps(&image, at_201.chip, 3_400 - 201);
+    assert_eq!(status_of(at_3400), 0xC0);
+    assert_eq!((at_3400.level, at_3400.used), (1, 4));
+    let at_3401 = taken(&image, at_3400);
+    assert_eq!((at_3401.report, at_3401.sample), (RAN_OUT, 0));
+    assert_eq!(at_3401.frame, NO_FRAME);
+    assert_eq!(status_of(at_3401.chip), 0x60);
+    assert_eq!(at_3401.chip, Chip { interrupt: 1, ..power_up() });
+}
+
+#[test]
+fn seventeenth_byte_to_try() {
+    let chip = external(&[1; 16]);
+    let answer = write(&[0], chip, 0xF0);
+    assert_eq!(answer.refusal, WAIT);
+    assert_eq!(answer.chip, chip);
+}
+
+#[test]
+fn sizes_to_try() {
+    for (size, refusal) in [(0, IMAGE), (1, TAKEN), (262_144, TAKEN), (262_145, IMAGE)] {
+        let image = vec![0xFF; size];
+        assert_eq!(walk(&image, 0).refusal, refusal);
+        assert_eq!(frame_at(&image, 0).refusal, refusal);
+        assert_eq!(write(&image, power_up(), 0).refusal, refusal);
+        assert_eq!(step(&image, &voice(1), power_up()).refusal, refusal);
+        assert_eq!(run(&image, &voice(1), power_up(), &mut []).refusal, refusal);
+    }
+    assert_eq!((voice(1).len(), voice_refusal(&voice(1))), (499, TAKEN));
+    assert_eq!((voice(64).len(), voice_refusal(&voice(64))), (562, TAKEN));
+    assert_eq!((voice(0).len(), voice_refusal(&voice(0))), (498, VOICE_SIZE));
+    assert_eq!((voice(65).len(), voice_refusal(&voice(65))), (563, VOICE_SIZE));
+    for count in 1..=64 {
+        assert_eq!(voice_refusal(&voice(count)), TAKEN);
+    }
+}
+
+/// What the paper's lister would print, from the walk and the frames alone.
+fn listed(image: &[u8]) -> String {
+    let walked = walk(image, 0);
+    if walked.refusal != TAKEN {
+        return format!("refused {}\n", walked.refusal);
+    }
+    let bytes = walked.part_to - walked.part_from;
+    let mut text = format!("phrase {} frames {} bits {bytes} bytes\n", walked.frames, walked.bits);
+    let mut at = 0;
+    for _ in 0..walked.frames {
+        let answer = frame_at(image, at);
+        let frame = answer.frame;
+        let (word, pitch, ks) = match frame.kind {
+            SILENCE => ("silence", "-".to_string(), 0),
+            STOP => ("stop", "-".to_string(), 0),
+            REPEAT => ("repeat", frame.pitch.to_string(), 0),
+            UNVOICED => ("unvoiced", frame.pitch.to_string(), 4),
+            _ => ("voiced", frame.pitch.to_string(), 10),
+        };
+        text += &format!("{at} {word} {} {pitch}", frame.energy);
+        for k in &frame.k[1..=ks] {
+            text += &format!(" {k}");
+        }
+        text += "\n";
+        at += answer.bits;
+    }
+    text
+}
+
+#[test]
+fn list_to_try() {
+    let text = "phrase 3 frames 19 bits 3 bytes\n0 silence 0 -\n4 repeat 3 1\n15 stop 15 -\n";
+    assert_eq!(listed(&[0x03, 0x83, 0xE0]), text);
+    assert_eq!(listed(&[]), "refused 3\n");
+    assert_eq!(listed(&[0]), "refused 10\n");
+    let image = bits("0101 0 000000 10001 00001 1001 0110   1110 0 111110 00001 00010 0011 0100 0101 0110 0111 001 010 011  1111");
+    let text = "phrase 3 frames 83 bits 11 bytes\n0 unvoiced 5 0 17 1 9 6\n29 voiced 14 62 1 2 3 4 5 6 7 1 2 3\n79 stop 15 -\n";
+    assert_eq!(listed(&image), text);
+}
+
+// ---------------------------------------------------------------- frames and walk
+
+#[test]
+fn widths_and_cuts() {
+    for (text, kind, width) in [
+        ("0000", SILENCE, 4),
+        ("1111", STOP, 4),
+        ("0001 1 000000", REPEAT, 11),
+        ("1110 1 111111", REPEAT, 11),
+        ("0001 0 000000 11111 11111 1111 1111", UNVOICED, 29),
+        ("1110 0 000001 11111 11111 1111 1111 1111 1111 1111 111 111 111", VOICED, 50),
+    ] {
+        for lead in 0..8 {
+            // The frame's last bit is the image's last.
+            let fill = (800 - width - lead) as usize % 8;
+            let lead_text = "0".repeat(lead as usize + fill);
+            let image = bits(&format!("{lead_text}{text}"));
+            let start = lead + fill as i64;
+            assert_eq!(start + width, end(&image));
+            let answer = frame_at(&image, start);
+            assert_eq!((answer.refusal, answer.frame.kind, answer.bits), (TAKEN, kind, width));
+            // One byte less: the bits end inside it, or before it.
+            let cut = &image[..image.len() - 1];
+            let answer = frame_at(cut, start);
+            let refusal = match cut.len() {
+                0 => IMAGE,
+                _ if start >= end(cut) => BEYOND,
+                _ => NO_PHRASE,
+            };
+            assert_eq!((answer.refusal, answer.frame, answer.bits), (refusal, NO_FRAME, 0));
+        }
+    }
+}
+
+#[test]
+fn frames_at_the_end() {
+    let image = [0x00, 0x0F];
+    assert_eq!(frame_at(&image, 12).refusal, TAKEN);
+    for bit in 13..16 {
+        assert_eq!(frame_at(&image, bit).refusal, NO_PHRASE);
+    }
+    assert_eq!(frame_at(&image, 16).refusal, BEYOND);
+    assert_eq!(frame_at(&image, 17).refusal, BEYOND);
+    assert_eq!(frame_at(&image, 0xFFFF_FFFF).refusal, BEYOND);
+    assert_eq!(walk(&image, 0xFFFF_FFFF).refusal, BEYOND);
+}
+
+#[test]
+fn walk_hands_back_the_part() {
+    let image = [0xAA, 0x0F, 0xFF, 0x55];
+    let walked = walk(&image, 1);
+    assert_eq!((walked.refusal, walked.bits, walked.frames), (TAKEN, 8, 2));
+    assert_eq!((walked.intervals, walked.samples), (16, 400));
+    assert_eq!((walked.part_from, walked.part_to), (1, 2));
+    let walked = walk(&[0x1F, 0xFF, 0], 0);
+    assert_eq!((walked.part_from, walked.part_to), (0, 2));
+    let refused = walk(&[0xAA, 0x00], 1);
+    assert_eq!((refused.refusal, refused.part_from, refused.part_to), (NO_PHRASE, 0, 0));
+    assert_eq!((refused.intervals, refused.samples), (0, 0));
+    // The last byte of the largest image.
+    let mut image = vec![0; 262_144];
+    assert_eq!(walk(&image, 0).refusal, NO_PHRASE);
+    image[262_143] = 0x0F;
+    let walked = walk(&image, 0);
+    assert_eq!((walked.bits, walked.frames), (2_097_152, 524_288));
+    assert_eq!((walked.part_from, walked.part_to), (0, 262_144));
+    assert_eq!(walk(&image, 262_143).frames, 2);
+    assert_eq!(walk(&image, 262_144).refusal, BEYOND);
+}
+
+// ---------------------------------------------------------------- voice file
+
+#[test]
+fn voice_refusals_and_their_order() {
+    let good = voice(30);
+    assert_eq!(voice_refusal(&[]), VOICE_SIZE);
+    assert_eq!(voice_refusal(&good[..498]), VOICE_SIZE);
+    assert_eq!(voice_refusal(&good[..499]), VOICE_LENGTH);
+    assert_eq!(voice_refusal(&with(&good, 0, &[0, 0])), VOICE_LENGTH);
+    assert_eq!(voice_refusal(&with(&good, 0, &[14, 2])), VOICE_LENGTH);
+    assert_eq!(voice_refusal(&with(&good, 2, &[0])), VOICE_VERSION);
+    assert_eq!(voice_refusal(&with(&good, 2, &[2])), VOICE_VERSION);
+    // Energies at 3, pitches at 33, K at 161, the count at 497.
+    for (at, bytes, refusal) in [
+        (3, [0, 0], TAKEN),
+        (3, [0, 1], VOICE_VALUE),
+        (5, [0, 0], TAKEN),
+        (5, [3, 255], TAKEN),
+        (5, [4, 0], VOICE_VALUE),
+        (31, [4, 0], VOICE_VALUE),
+        (31, [3, 255], TAKEN),
+        (33, [0, 1], VOICE_VALUE),
+        (35, [0, 0], VOICE_VALUE),
+        (35, [0, 1], TAKEN),
+        (35, [3, 255], TAKEN),
+        (35, [4, 0], VOICE_VALUE),
+        (159, [0, 0], VOICE_VALUE),
+        (161, [2, 0], VOICE_VALUE),
+        (161, [1, 255], TAKEN),
+        (161, [254, 0], TAKEN),
+        (161, [253, 255], VOICE_VALUE),
+        (495, [2, 0], VOICE_VALUE),
+        (495, [254, 0], TAKEN),
+    ] {
+        assert_eq!(voice_refusal(&with(&good, at, &bytes)), refusal, "{at} {bytes:?}");
+    }
+    for count in [0, 29, 31, 64, 65, 255] {
+        assert_eq!(voice_refusal(&with(&good, 497, &[count])), VOICE_PULSE);
+    }
+    for byte in 0..=255 {
+        assert_eq!(voice_refusal(&with(&good, 498, &[byte])), TAKEN);
+    }
+    // The first in the order wins.
+    let all_bad = with(&with(&with(&with(&good, 0, &[9, 9]), 2, &[9]), 5, &[9, 9]), 497, &[0]);
+    assert_eq!(voice_refusal(&all_bad), VOICE_LENGTH);
+    assert_eq!(voice_refusal(&with(&all_bad, 0, &good[0..2])), VOICE_VERSION);
+    assert_eq!(voice_refusal(&with(&all_bad, 0, &good[0..3])), VOICE_VALUE);
+    assert_eq!(voice_refusal(&with(&all_bad, 0, &good[0..7])), VOICE_PULSE);
+}
+
+#[test]
+fn voice_tables() {
+    let tables = tables(&voice(40));
+    assert_eq!((tables.energy(0), tables.energy(14)), (0, 980));
+    assert_eq!((tables.pitch(0), tables.pitch(63)), (0, 1008));
+    // The first value of each K: 32, 32, 5 times 16, 3 times 8.
+    for (number, before) in [0, 32, 64, 80, 96, 112, 128, 144, 152, 160].into_iter().enumerate() {
+        assert_eq!(tables.k(number + 1, 0), 6 * before - 500);
+    }
+    assert_eq!(tables.k(10, 7), 6 * 167 - 500);
+    assert_eq!((tables.pulse(0), tables.pulse(34), tables.pulse(39), tables.pulse(40)), (100, -2, -17, 0));
+}
+
+// ---------------------------------------------------------------- state ranges
+
+/// Each of the ranges at its bounds and just outside them.
+#[test]
+fn state_ranges() {
+    let mut external_speech = power_up();
+    external_speech.mode = EXTERNAL;
+    external_speech.level = 1;
+    external_speech.sounding = 1;
+    let mut sounding = power_up();
+    sounding.sounding = 1;
+    let check = |what: &str, chip: Chip, refusal: i64| {
+        assert_eq!(state_refusal(&chip), refusal, "{what}");
+        let answer = read(chip);
+        assert_eq!(answer.refusal, refusal, "{what}");
+        if refusal != TAKEN {
+            assert_eq!((answer.byte, answer.chip), (0, chip));
+            let written = write(&[0], chip, 0x70);
+            assert_eq!((written.refusal, written.chip), (refusal, chip));
+            let stepped = step(&[0], &voice(9), chip);
+            assert_eq!((stepped.refusal, stepped.chip, stepped.sample), (refusal, chip, 0));
+            assert_eq!((stepped.report, stepped.frame), (NOTHING, NO_FRAME));
+            let mut buffer = [9_999; 3];
+            let ran = run(&[0], &voice(9), chip, &mut buffer);
+            assert_eq!((ran.refusal, ran.chip, buffer), (refusal, chip, [9_999; 3]));
+        }
+    };
+    let range = |what: &str, base: Chip, set: &dyn Fn(&mut Chip, i64), low: i64, high: i64| {
+        for (value, refusal) in [(low - 1, STATE), (low, TAKEN), (high, TAKEN), (high + 1, STATE)] {
+            let mut chip = base;
+            set(&mut chip, value);
+            check(&format!("{what} {value}"), chip, refusal);
+        }
+    };
+    check("power-up", power_up(), TAKEN);
+    range("current energy", sounding, &|c, v| c.currents.energy = v, 0, 1023);
+    range("current pitch", sounding, &|c, v| c.currents.pitch = v, 0, 1023);
+    range("target energy", sounding, &|c, v| c.targets.energy = v, 0, 1023);
+    range("target pitch", sounding, &|c, v| c.targets.pitch = v, 0, 1023);
+    for i in 1..=10 {
+        range("current K", sounding, &|c, v| c.currents.k[i] = v, -512, 511);
+        range("target K", sounding, &|c, v| c.targets.k[i] = v, -512, 511);
+        range("memory", sounding, &|c, v| c.memory[i] = v, -8192, 8191);
+    }
+    range("noise", sounding, &|c, v| c.noise = v, 1, 8191);
+    range("place", sounding, &|c, v| c.place = v, 0, 1022);
+    range("sample", sounding, &|c, v| c.sample = v, 0, 24);
+    range("interval", sounding, &|c, v| c.interval = v, 0, 7);
+    range("nibble", power_up(), &|c, v| c.nibble = v, 0, 4);
+    range("position", power_up(), &|c, v| c.position = v, 0, 2_097_152);
+    range("level in idle", power_up(), &|c, v| c.level = v, 0, 0);
+    range("level in ROM speech", Chip { mode: ROM, ..sounding }, &|c, v| c.level = v, 0, 0);
+    range("level in waiting", Chip { mode: WAITING, ..power_up() }, &|c, v| c.level = v, 0, 8);
+    range("level in external speech", external_speech, &|c, v| c.level = v, 1, 16);
+    check("level 255", Chip { level: 255, ..external_speech }, STATE);
+    range("used in external speech", external_speech, &|c, v| c.used = v, 0, 7);
+    range("used in idle", power_up(), &|c, v| c.used = v, 0, 0);
+    range("used in ROM speech", Chip { mode: ROM, ..sounding }, &|c, v| c.used = v, 0, 0);
+    range("used in waiting", Chip { mode: WAITING, level: 1, ..power_up() }, &|c, v| c.used = v, 0, 0);
+    for level in 0..=16 {
+        let mode = if level == 0 { WAITING } else { EXTERNAL };
+        for i in 0..16 {
+            let mut chip = Chip { level, mode, ..external_speech };
+            chip.fifo[i] = 1;
+            check("unheld byte", chip, if (i as i64) < level { TAKEN } else { STATE });
+        }
+    }
+    // Not sounding: sound at rest, no speaking mode.
+    range("silent noise", power_up(), &|c, v| c.noise = v, 8191, 8191);
+    range("silent place", power_up(), &|c, v| c.place = v, 0, 0);
+    range("silent sample", power_up(), &|c, v| c.sample = v, 0, 0);
+    range("silent interval", power_up(), &|c, v| c.interval = v, 0, 0);
+    range("silent energy", power_up(), &|c, v| c.currents.energy = v, 0, 0);
+    range("silent target", power_up(), &|c, v| c.targets.k[10] = v, 0, 0);
+    range("silent memory", power_up(), &|c, v| c.memory[10] = v, 0, 0);
+    check("silent ROM speech", Chip { mode: ROM, ..power_up() }, STATE);
+    check("silent external speech", Chip { sounding: 0, ..external_speech }, STATE);
+    check("silent waiting", Chip { mode: WAITING, ..power_up() }, TAKEN);
+    check("sounding idle", sounding, TAKEN);
+    check("sounding waiting", Chip { mode: WAITING, ..sounding }, TAKEN);
+    // Data.
+    check("no pending data, byte", Chip { data: 1, ..power_up() }, STATE);
+    check("pending 0", Chip { pending: 1, ..power_up() }, TAKEN);
+    check("pending 255", Chip { pending: 1, data: 255, ..sounding }, TAKEN);
+    check("pending in ROM speech", Chip { pending: 1, mode: ROM, ..sounding }, STATE);
+    check("pending in waiting", Chip { pending: 1, mode: WAITING, ..power_up() }, STATE);
+    check("pending in external speech", Chip { pending: 1, ..external_speech }, STATE);
+    check("interrupt", Chip { interrupt: 1, ..power_up() }, TAKEN);
+}
+
+// ---------------------------------------------------------------- order of checks
+
+#[test]
+fn order_of_checks() {
+    let bad_chip = Chip { nibble: 5, ..power_up() };
+    let good = voice(7);
+    let bad_voices = [
+        (good[..10].to_vec(), VOICE_SIZE),
+        (with(&good, 0, &[0, 0]), VOICE_LENGTH),
+        (with(&good, 2, &[0]), VOICE_VERSION),
+        (with(&good, 3, &[0, 1]), VOICE_VALUE),
+        (with(&good, 497, &[0]), VOICE_PULSE),
+    ];
+    for (file, refusal) in &bad_voices {
+        assert_eq!(step(&[], file, bad_chip).refusal, IMAGE);
+        assert_eq!(step(&[0], file, bad_chip).refusal, *refusal);
+        // Also while silent (D 45), and into an empty buffer.
+        assert_eq!(step(&[0], file, power_up()).refusal, *refusal);
+        assert_eq!(run(&[0], file, power_up(), &mut []).refusal, *refusal);
+    }
+    assert_eq!(step(&[0], &good, bad_chip).refusal, STATE);
+    assert_eq!(run(&[0], &good, bad_chip, &mut []).refusal, STATE);
+    assert_eq!(run(&[0], &good, power_up(), &mut []).refusal, TAKEN);
+    // Image before state, state before WAIT, WAIT before BEYOND.
+    let speaking = writes(&[0], power_up(), &[0x50]);
+    assert_eq!(write(&[], Chip { nibble: 5, ..speaking }, 0x10).refusal, IMAGE);
+    assert_eq!(write(&[0], Chip { nibble: 5, ..speaking }, 0x10).refusal, STATE);
+    let past = Chip { position: 80, ..speaking };
+    assert_eq!(write(&[0], past, 0x10).refusal, WAIT);
+    let full = Chip { level: 16, ..external(&[1; 9]) };
+    assert_eq!(write(&[], full, 0).refusal, IMAGE);
+    assert_eq!(write(&[0], Chip { nibble: 5, ..full }, 0).refusal, STATE);
+    assert_eq!(write(&[0], full, 0).refusal, WAIT);
+    // Reset too, and FIFO bytes.
+    assert_eq!(write(&[], power_up(), 0x70).refusal, IMAGE);
+    assert_eq!(write(&[0], bad_chip, 0x70).refusal, STATE);
+    assert_eq!(write(&[], external(&[]), 1).refusal, IMAGE);
+    // A read takes state only.
+    assert_eq!(read(power_up()).refusal, TAKEN);
+    assert_eq!(read(bad_chip).refusal, STATE);
+}
+
+// ---------------------------------------------------------------- writes
+
+#[test]
+fn wait_while_speaking_from_rom() {
+    let image = [0; 8];
+    let speaking = writes(&image, power_up(), &[0x50]);
+    for byte in 0..256 {
+        let answer = write(&image, speaking, byte);
+        if byte & 0x70 == 0x70 {
+            assert_eq!((answer.refusal, answer.chip), (TAKEN, power_up()));
+        } else {
+            assert_eq!((answer.refusal, answer.chip), (WAIT, speaking));
+        }
+    }
+}
+
+#[test]
+fn beyond_in_writes() {
+    let image = [0xFF, 0x01, 0x80];
+    for position in 0..40 {
+        let chip = Chip { position, pending: 1, data: 7, nibble: 3, ..power_up() };
+        let refused = |byte: i64| {
+            let answer = write(&image, chip, byte);
+            if answer.refusal != TAKEN {
+                assert_eq!(answer.chip, chip);
+            }
+            answer.refusal
+        };
+        assert_eq!(refused(0x10), if position <= 16 { TAKEN } else { BEYOND });
+        assert_eq!(refused(0x30), if position <= 15 { TAKEN } else { BEYOND });
+        assert_eq!(refused(0x50), if position <= 23 { TAKEN } else { BEYOND });
+        for byte in [0x00, 0x20, 0x40, 0x60, 0x70] {
+            assert_eq!(refused(byte), TAKEN);
+        }
+    }
+    let top = Chip { position: 2_097_152, ..power_up() };
+    let image = vec![0; 262_144];
+    for byte in [0x10, 0x30, 0x50] {
+        assert_eq!(write(&image, top, byte).refusal, BEYOND);
+    }
+    // No command in the external modes.
+    let waiting = Chip { position: 2_097_152, ..external(&[]) };
+    assert_eq!(write(&image, waiting, 0x10).refusal, TAKEN);
+}
+
+#[test]
+fn top_bit_ignored() {
+    let image = [0x12, 0x34, 0x56, 0x78];
+    for byte in 0..128 {
+        let chip = Chip { nibble: 2, ..power_up() };
+        assert_eq!(write(&image, chip, byte).chip, write(&image, chip, byte + 128).chip);
+    }
+}
+
+#[test]
+fn load_address() {
+    let image = [0];
+    // The fifth load: only the two low bits count; the sixth is the lowest.
+    let chip = writes(&image, power_up(), &[0x4F, 0x4F, 0x4F, 0x4F, 0x4F]);
+    assert_eq!((chip.position, chip.nibble), (8 * 262_143, 0));
+    let chip = writes(&image, chip, &[0x40]);
+    assert_eq!((chip.position, chip.nibble), (8 * 262_128, 1));
+    let chip = writes(&image, power_up(), &[0x40, 0x40, 0x40, 0x40, 0x4C]);
+    assert_eq!((chip.position, chip.nibble), (0, 0));
+    // At the last position the base is 0; within a byte the bits are dropped.
+    let chip = writes(&image, Chip { position: 2_097_152, ..power_up() }, &[0x43]);
+    assert_eq!(chip.position, 8 * 3);
+    let chip = writes(&image, Chip { position: 8 * 0x12345 + 5, nibble: 2, ..power_up() }, &[0x4A]);
+    assert_eq!((chip.position, chip.nibble), (8 * 0x12A45, 3));
+}
+
+#[test]
+fn nibble_restarts() {
+    let image = [0; 4];
+    for nibble in 0..5 {
+        let chip = Chip { nibble, ..power_up() };
+        for byte in [0x10, 0x30, 0x50, 0x70] {
+            assert_eq!(write(&image, chip, byte).chip.nibble, 0);
+        }
+        for byte in [0x00, 0x20, 0x60] {
+            assert_eq!(write(&image, chip, byte).chip.nibble, nibble);
+        }
+        assert_eq!(read(chip).chip.nibble, nibble);
+        // A refused one restarts nothing.
+        let past = Chip { position: 32, ..chip };
+        assert_eq!(write(&image, past, 0x10).chip.nibble, nibble);
+    }
+}
+
+#[test]
+fn read_byte_and_reads() {
+    let image = [0b1010_0101, 0b1100_0011];
+    let mut chip = writes(&image, Chip { position: 3, interrupt: 1, ..power_up() }, &[0x10]);
+    assert_eq!((chip.position, chip.pending, chip.data), (11, 1, 0b0010_1110));
+    // The data read keeps the interrupt, the status read clears it.
+    let answer = read(chip);
+    assert_eq!((answer.refusal, answer.byte), (TAKEN, 0b0010_1110));
+    chip = answer.chip;
+    assert_eq!((chip.pending, chip.data, chip.interrupt), (0, 0, 1));
+    let answer = read(chip);
+    assert_eq!((answer.byte, answer.chip.interrupt), (0x60, 0));
+    // Each taken write ends pending data; a refused one does not.
+    let pending = writes(&image, power_up(), &[0x10]);
+    for byte in [0x00, 0x20, 0x40, 0x30, 0x50, 0x60] {
+        let answer = write(&image, Chip { position: 0, ..pending }, byte);
+        assert_eq!((answer.refusal, answer.chip.pending, answer.chip.data), (TAKEN, 0, 0));
+    }
+    let late = Chip { position: 9, ..pending };
+    let answer = write(&image, late, 0x10);
+    assert_eq!((answer.refusal, answer.chip), (BEYOND, late));
+    // Another Read Byte replaces the byte.
+    let again = writes(&image, pending, &[0x10]);
+    assert_eq!((again.pending, again.data, again.position), (1, 0b1100_0011, 16));
+    // A step keeps it.
+    assert_eq!(taken(&image, again).chip, again);
+}
+
+#[test]
+fn read_and_branch() {
+    // Unaligned: the byte that holds the position.
+    let image = [0, 0x03, 0x01, 0];
+    let chip = writes(&image, Chip { position: 8 + 7, ..power_up() }, &[0x30]);
+    assert_eq!(chip.position, 8 * 0x103);
+    // Across the chips: the second byte is in the next one, the chip part of
+    // the address is the first byte's.
+    let mut image = vec![0; 40_000];
+    image[16_383] = 0x34;
+    image[16_384] = 0xF2;
+    let chip = writes(&image, Chip { position: 8 * 16_383, ..power_up() }, &[0x30]);
+    assert_eq!(chip.position, 8 * 0x3234);
+    image[16_385] = 0x01;
+    let chip = writes(&image, Chip { position: 8 * 16_384, ..power_up() }, &[0x30]);
+    assert_eq!(chip.position, 8 * (0x4000 + 0x01F2));
+}
+
+#[test]
+fn reset_cannot_end_the_external_modes() {
+    let chip = external(&[0x70]);
+    assert_eq!((chip.mode, chip.level, chip.fifo[0]), (WAITING, 1, 0x70));
+    let chip = writes(&[0], chip, &[0; 8]);
+    assert_eq!((chip.mode, chip.level), (EXTERNAL, 9));
+    let chip = writes(&[0], chip, &[0xF0]);
+    assert_eq!((chip.mode, chip.level, chip.fifo[9]), (EXTERNAL, 10, 0xF0));
+}
+
+#[test]
+fn ts_rising_starts_from_rest() {
+    let image = [0xFF];
+    let rest = Chip { sounding: 1, ..power_up() };
+    assert_eq!(writes(&image, power_up(), &[0x50]), Chip { mode: ROM, ..rest });
+    // While a stop's frame sounds: Speak External leaves the sound, the ninth
+    // byte restarts it.
+    let mut dice = Dice(77);
+    let mut old = rest;
+    old.currents = dice.values();
+    old.targets = dice.values();
+    old.memory[4] = -5;
+    old.sample = 7;
+    old.interval = 3;
+    old.noise = 55;
+    old.place = 66;
+    let waiting = writes(&image, old, &[0x60]);
+    assert_eq!(waiting, Chip { mode: WAITING, ..old });
+    let eight = writes(&image, waiting, &[1, 2, 3, 4, 5, 6, 7, 8]);
+    assert_eq!((eight.sample, eight.noise, eight.mode, eight.level), (7, 55, WAITING, 8));
+    let nine = writes(&image, eight, &[9]);
+    let mut expected = Chip { mode: EXTERNAL, level: 9, ..rest };
+    for i in 0..9 {
+        expected.fifo[i] = i as i64 + 1;
+    }
+    assert_eq!(nine, expected);
+    assert_eq!(writes(&image, old, &[0x50]), Chip { mode: ROM, ..rest });
+    assert_eq!(writes(&image, old, &[0x70]), power_up());
+}
+
+// ---------------------------------------------------------------- steps
+
+#[test]
+fn not_sounding_changes_nothing() {
+    for chip in [power_up(), external(&[0xFF; 8]), Chip { interrupt: 1, position: 99, ..power_up() }] {
+        let stepped = taken(&[0], chip);
+        assert_eq!((stepped.chip, stepped.sample, stepped.report), (chip, 0, NOTHING));
+        assert_eq!(stepped.frame, NO_FRAME);
+    }
+}
+
+#[test]
+fn stop_still_sounds_200_samples() {
+    let image = [0xFF];
+    let first = taken(&image, writes(&image, power_up(), &[0x50]));
+    assert_eq!((first.report, first.frame.kind), (STOPPED, STOP));
+    assert_eq!((first.chip.mode, first.chip.position, first.chip.sounding), (IDLE, 4, 1));
+    assert_eq!((first.chip.sample, first.chip.interval, first.chip.interrupt), (1, 0, 1));
+    let last = steps(&image, first.chip, 199);
+    assert_eq!((last.sample, last.interval, last.sounding), (0, 0, 1));
+    // A status read in between clears the interrupt; the boundary sets none.
+    let stepped = taken(&image, read(last).chip);
+    assert_eq!((stepped.report, stepped.sample, stepped.frame), (NOTHING, 0, NO_FRAME));
+    assert_eq!(stepped.chip, Chip { position: 4, ..power_up() });
+}
+
+#[test]
+fn boundary_in_waiting_keeps_the_fifo() {
+    let mut chip = external(&[0xFF, 0xFE]);
+    chip.sounding = 1;
+    chip.noise = 5;
+    chip.targets.energy = 9;
+    let stepped = taken(&[0], chip);
+    assert_eq!(stepped.chip, external(&[0xFF, 0xFE]));
+    assert_eq!((stepped.report, stepped.sample), (NOTHING, 0));
+}
+
+#[test]
+fn rom_runs_out() {
+    // Inside a frame, after three bits, and before the first bit.
+    for (position, image) in [(4, vec![0x01]), (5, vec![0x00]), (8, vec![0x00]), (0, vec![0x10])] {
+        let chip = Chip { mode: ROM, sounding: 1, position, noise: 3, ..power_up() };
+        let stepped = taken(&image, chip);
+        assert_eq!((stepped.report, stepped.sample, stepped.frame), (RAN_OUT, 0, NO_FRAME));
+        assert_eq!(stepped.chip, Chip { position: 8, interrupt: 1, ..power_up() });
+    }
+    // Past the end it stays.
+    let chip = Chip { mode: ROM, sounding: 1, position: 9, ..power_up() };
+    assert_eq!(taken(&[0], chip).chip, Chip { position: 9, interrupt: 1, ..power_up() });
+    // A frame that ends exactly with the image is whole; then it runs out.
+    let chip = Chip { mode: ROM, sounding: 1, position: 4, ..power_up() };
+    let stepped = taken(&[0], chip);
+    assert_eq!((stepped.report, stepped.chip.position, stepped.chip.mode), (FRAME, 8, ROM));
+    assert_eq!(stepped.chip.interrupt, 0);
+    let stepped = taken(&[0], steps(&[0], stepped.chip, 199));
+    assert_eq!((stepped.report, stepped.chip.position), (RAN_OUT, 8));
+    // Speak with three bits left is taken, and step 1 runs out.
+    let chip = writes(&[0xFF], Chip { position: 5, ..power_up() }, &[0x50]);
+    assert_eq!(taken(&[0xFF], chip).report, RAN_OUT);
+}
+
+/// An external-speech chip with these bytes, used bits, at a boundary.
+fn speech(bytes: &[i64], used: i64) -> Chip {
+    let mut chip = power_up();
+    chip.mode = EXTERNAL;
+    chip.sounding = 1;
+    chip.level = bytes.len() as i64;
+    chip.used = used;
+    chip.fifo[..bytes.len()].copy_from_slice(bytes);
+    chip
+}
+
+#[test]
+fn fifo_ends() {
+    let out = Chip { interrupt: 1, ..power_up() };
+    let runs_out = |chip: Chip| {
+        let stepped = taken(&[0], chip);
+        assert_eq!((stepped.report, stepped.sample, stepped.frame), (RAN_OUT, 0, NO_FRAME), "{chip:?}");
+        assert_eq!(stepped.chip, out);
+    };
+    // The bits end inside a frame: in the energy, the pitch, K1.
+    runs_out(speech(&[0xFF], 5));
+    runs_out(speech(&[0x10], 0));
+    runs_out(speech(&[0xF1, 0x00], 4));
+    // They end exactly with a frame other than a stop: silence, repeat.
+    runs_out(speech(&[0xF0], 4));
+    runs_out(speech(&[0xFE, 0x2A], 5));
+    // One bit more, and the silence is a frame.
+    let stepped = taken(&[0], speech(&[0xE0], 3));
+    assert_eq!((stepped.report, stepped.chip.level, stepped.chip.used), (FRAME, 1, 7));
+    let stepped = taken(&[0], speech(&[0, 0], 4));
+    assert_eq!((stepped.report, stepped.chip.level, stepped.chip.used), (FRAME, 1, 0));
+    // They end exactly with a stop.
+    let stepped = taken(&[0], speech(&[0x0F], 4));
+    assert_eq!((stepped.report, stepped.frame.kind), (STOPPED, STOP));
+    assert_eq!((stepped.chip.mode, stepped.chip.level, stepped.chip.used), (IDLE, 0, 0));
+    assert_eq!((stepped.chip.fifo, stepped.chip.sounding, stepped.chip.interrupt), ([0; 16], 1, 1));
+    // A stop with bytes held behind it: they are discarded.
+    let stepped = taken(&[0], speech(&[0x1F, 1, 2, 3, 4, 5, 6, 7, 8, 9, 10, 11, 12, 13, 14, 15], 4));
+    assert_eq!((stepped.report, stepped.chip.mode), (STOPPED, IDLE));
+    assert_eq!((stepped.chip.level, stepped.chip.used, stepped.chip.fifo), (0, 0, [0; 16]));
+    assert_eq!(state_refusal(&stepped.chip), TAKEN);
+    // After it a byte is a command again.
+    assert_eq!(write(&[0], stepped.chip, 0x70).chip, power_up());
+}
+
+#[test]
+fn fifo_bits_leave_in_order() {
+    // Voiced, 50 bits: six bytes go, two bits are used.
+    let bytes: Vec<i64> = bits("1110 0 111110 00001 00010 0011 0100 0101 0110 0111 001 010 011 000000 11110000 00001111")
+        .iter()
+        .map(|byte| i64::from(*byte))
+        .collect();
+    assert_eq!(bytes.len(), 9);
+    let stepped = taken(&[0], speech(&bytes, 0));
+    assert_eq!(stepped.frame, Frame { kind: VOICED, energy: 14, pitch: 62, k: [0, 1, 2, 3, 4, 5, 6, 7, 1, 2, 3] });
+    assert_eq!((stepped.chip.level, stepped.chip.used), (3, 2));
+    assert_eq!(stepped.chip.fifo[..4], [bytes[6], 0xF0, 0x0F, 0]);
+    // BL rises: interrupt.
+    assert_eq!((status(&stepped.chip), stepped.chip.interrupt), (0xC0, 1));
+    // Again with BL there before: none.
+    let stepped = taken(&[0], speech(&bytes[..8], 0));
+    assert_eq!((stepped.chip.level, stepped.chip.interrupt), (2, 0));
+    // Ten bytes to nine: none.
+    let stepped = taken(&[0], speech(&[0; 10], 4));
+    assert_eq!((stepped.chip.level, stepped.chip.used, stepped.chip.interrupt), (9, 0, 0));
+    // Nine to eight: set. Four bits of nine leave nine held.
+    let stepped = taken(&[0], speech(&[0; 9], 4));
+    assert_eq!((stepped.chip.level, stepped.chip.used, stepped.chip.interrupt), (8, 0, 1));
+    let stepped = taken(&[0], speech(&[0; 9], 3));
+    assert_eq!((stepped.chip.level, stepped.chip.used, stepped.chip.interrupt), (9, 7, 0));
+}
+
+#[test]
+fn interrupt_stays() {
+    let chip = Chip { interrupt: 1, ..speech(&[0; 9], 0) };
+    assert_eq!(taken(&[0], chip).chip.interrupt, 1);
+}
+
+#[test]
+fn targets_of_each_kind() {
+    let mut old = ZERO_VALUES;
+    old.energy = 11;
+    old.pitch = 22;
+    for i in 1..=10 {
+        old.k[i] = i as i64 - 100;
+    }
+    let targets = |text: &str| {
+        let image = bits(text);
+        let chip = Chip { mode: ROM, sounding: 1, targets: old, ..power_up() };
+        taken(&image, chip).chip.targets
+    };
+    assert_eq!(targets("0000"), Values { energy: 0, ..old });
+    assert_eq!(targets("1111"), Values { energy: 0, ..old });
+    assert_eq!(targets("0011 1 000101"), Values { energy: 210, pitch: 80, ..old });
+    assert_eq!(targets("0011 1 000000"), Values { energy: 210, pitch: 0, ..old });
+    let at = |j: i64| 6 * j - 500;
+    assert_eq!(
+        targets("0101 0 000000 10001 00001 1001 0110"),
+        Values { energy: 350, pitch: 0, k: [0, at(17), at(33), at(64 + 9), at(80 + 6), 0, 0, 0, 0, 0, 0] }
+    );
+    assert_eq!(
+        targets("1110 0 111110 00001 00010 0011 0100 0101 0110 0111 001 010 011"),
+        Values {
+            energy: 980,
+            pitch: 992,
+            k: [
+                0,
+                at(1),
+                at(32 + 2),
+                at(64 + 3),
+                at(80 + 4),
+                at(96 + 5),
+                at(112 + 6),
+                at(128 + 7),
+                at(144 + 1),
+                at(152 + 2),
+                at(160 + 3)
+            ]
+        }
+    );
+}
+
+/// Idle, sounding, in the middle of an interval: only the sound is computed.
+fn middle() -> Chip {
+    Chip { sounding: 1, sample: 3, interval: 2, ..power_up() }
+}
+
+#[test]
+fn samples_by_hand() {
+    let image = [0];
+    // Unvoiced, register odd: -64; the place goes to 0 at current pitch 0.
+    let mut chip = middle();
+    chip.currents.energy = 100;
+    let stepped = taken(&image, chip);
+    assert_eq!(stepped.sample, -100);
+    assert_eq!((stepped.chip.noise, stepped.chip.place, stepped.chip.sample), (8190, 0, 4));
+    assert_eq!(stepped.chip.memory[1], -100);
+    // Register even: 64. Through the lattice.
+    chip.noise = 8190;
+    chip.currents.k[10] = 511;
+    chip.memory[10] = 7;
+    chip.currents.k[1] = 256;
+    chip.memory[1] = -3;
+    chip.memory[9] = 77;
+    let stepped = taken(&image, chip);
+    // Forward 10 = 100 - floor(3577 / 512) = 94; forward 1 = 94 - floor(-768 /
+    // 512) = 96.
+    assert_eq!(stepped.sample, 96);
+    assert_eq!(stepped.chip.memory, [0, 96, -3 + 48, 0, 0, 0, 0, 0, 0, 0, 77]);
+    // Voiced by the target, pulse -2 at place 34; floor(3 × -2 / 64) = -1.
+    let mut chip = middle();
+    chip.currents.energy = 3;
+    chip.targets.pitch = 1;
+    chip.currents.pitch = 36;
+    chip.place = 34;
+    let stepped = taken(&image, chip);
+    assert_eq!((stepped.sample, stepped.chip.place, stepped.chip.noise), (-1, 35, 8190));
+    let stepped = taken(&image, stepped.chip);
+    assert_eq!((stepped.chip.place, stepped.chip.noise), (0, 8189));
+    // Target pitch 0, current pitch not: noise. The other way round: pulses.
+    let mut fading = middle();
+    fading.currents.energy = 64;
+    fading.currents.pitch = 36;
+    fading.place = 1;
+    let stepped = taken(&image, fading);
+    assert_eq!((stepped.sample, stepped.chip.place), (-64, 2));
+    fading.currents.pitch = 0;
+    fading.targets.pitch = 36;
+    let stepped = taken(&image, fading);
+    assert_eq!((stepped.sample, stepped.chip.place), (97, 0));
+    // 0 past the table's end.
+    chip.place = 41;
+    chip.currents.pitch = 1023;
+    let stepped = taken(&image, chip);
+    assert_eq!((stepped.sample, stepped.chip.place), (0, 42));
+    chip.place = 1022;
+    assert_eq!(taken(&image, chip).chip.place, 0);
+    chip.place = 1021;
+    assert_eq!(taken(&image, chip).chip.place, 1022);
+}
+
+#[test]
+fn filter_is_held() {
+    let image = [0];
+    let mut chip = middle();
+    chip.noise = 8190;
+    chip.currents.energy = 100;
+    chip.currents.k[1] = -512;
+    chip.memory[1] = 8191;
+    // Forward 1 = 100 + 8191, held.
+    let stepped = taken(&image, chip);
+    assert_eq!((stepped.sample, stepped.chip.memory[1], stepped.chip.memory[2]), (511, 8191, 0));
+    // Forward 1 = 100 - 8192 = -8092, memory 2 = -8192 + 8092.
+    chip.memory[1] = -8192;
+    let stepped = taken(&image, chip);
+    assert_eq!((stepped.sample, stepped.chip.memory[1], stepped.chip.memory[2]), (-512, -8092, -100));
+    // Floor in the memory: K1 times forward 1 is 3 × -100 = -300.
+    let mut down = middle();
+    down.currents.energy = 100;
+    down.currents.k[1] = 3;
+    assert_eq!(taken(&image, down).chip.memory[1..=2], [-100, -1]);
+    // The same below: the input is -100.
+    chip.noise = 8191;
+    let stepped = taken(&image, chip);
+    assert_eq!((stepped.chip.memory[1], stepped.chip.memory[2]), (-8192, 0));
+    // Memory held: forward 2 is 8191, K1 a half.
+    let mut chip = middle();
+    chip.noise = 8190;
+    chip.currents.energy = 100;
+    chip.currents.k[2] = -512;
+    chip.memory[2] = 8191;
+    chip.currents.k[1] = 256;
+    chip.memory[1] = 8191;
+    let stepped = taken(&image, chip);
+    assert_eq!(stepped.chip.memory[1..=3], [4096, 8191, 0]);
+}
+
+#[test]
+fn interpolation_in_steps() {
+    // Silence frames after a voiced frame: pitch and K go on to their targets.
+    let image = bits("1110 0 000101 00001 00010 0011 0100 0101 0110 0111 001 010 011 0000 1111");
+    let mut chip = writes(&image, power_up(), &[0x50]);
+    let mut expected = 0;
+    for number in 0..400 {
+        let stepped = taken(&image, chip);
+        chip = stepped.chip;
+        let (frame, interval) = (number / 200, number / 25 % 8);
+        if number % 25 == 0 {
+            expected = nearer(expected, [980, 0][frame as usize], interval);
+        }
+        assert_eq!(chip.currents.energy, expected, "sample {number}");
+        assert_eq!(stepped.report, if number % 200 == 0 { FRAME } else { NOTHING });
+        let next = (number + 1) % 200;
+        assert_eq!((chip.interval, chip.sample), (next / 25, next % 25));
+    }
+    assert_eq!((chip.currents.energy, chip.currents.pitch, chip.currents.k[1]), (0, 80, -494));
+    assert_eq!(chip.targets.pitch, 80);
+}
+
+// ---------------------------------------------------------------- laws
+
+/// Refused calls return the given state, taken ones a valid one, and a run is
+/// one step for each element.
+#[test]
+fn laws_over_valid_states() {
+    let mut dice = Dice(0x1234_5678_9ABC_DEF1);
+    for round in 0..20_000 {
+        let bytes = 1 + dice.below(12) as usize;
+        let image = dice.bytes(bytes);
+        let file = voice(1 + dice.below(64) as i64);
+        let chip = dice.chip(bytes as i64);
+        assert_eq!(state_refusal(&chip), TAKEN, "round {round}");
+        let answer = write(&image, chip, dice.below(256) as i64);
+        assert!([TAKEN, WAIT, BEYOND].contains(&answer.refusal));
+        assert!(answer.refusal == TAKEN || answer.chip == chip);
+        assert_eq!(state_refusal(&answer.chip), TAKEN);
+        let answer = read(chip);
+        assert_eq!((answer.refusal, state_refusal(&answer.chip)), (TAKEN, TAKEN));
+        let count = dice.below(30) as usize;
+        let mut buffer = vec![9_999; count];
+        let ran = run(&image, &file, chip, &mut buffer);
+        let mut stepwise = chip;
+        for element in buffer {
+            let before = stepwise;
+            let stepped = step(&image, &file, stepwise);
+            assert_eq!((stepped.refusal, state_refusal(&stepped.chip)), (TAKEN, TAKEN));
+            assert_eq!(stepped.sample, element);
+            assert!((-512..=511).contains(&element));
+            stepwise = stepped.chip;
+            let fell = speaking(before.mode) && !speaking(stepwise.mode);
+            assert_eq!(fell, stepped.report == STOPPED || stepped.report == RAN_OUT);
+            assert!(!fell || stepwise.interrupt == 1);
+        }
+        assert_eq!((ran.refusal, ran.chip), (TAKEN, stepwise));
+    }
+}
+
+/// The list of document 01's demand 3, on random images: frames, position and
+/// TS after each step are those of the walk.
+#[test]
+fn steps_follow_the_walk() {
+    let mut dice = Dice(99);
+    for _ in 0..300 {
+        let bytes = 1 + dice.below(10) as usize;
+        let image = dice.bytes(bytes);
+        let address = dice.below(bytes as u64) as i64;
+        let mut chip = power_up();
+        let mut rest = address;
+        for _ in 0..5 {
+            chip = writes(&image, chip, &[0x40 + rest % 16]);
+            rest /= 16;
+        }
+        chip = writes(&image, chip, &[0x50]);
+        let mut at = 8 * address;
+        loop {
+            let due = frame_at(&image, at);
+            let stepped = taken(&image, chip);
+            chip = stepped.chip;
+            if due.refusal != TAKEN {
+                assert_eq!((stepped.report, chip.position), (RAN_OUT, end(&image)));
+                assert_eq!(walk(&image, address).refusal, NO_PHRASE);
+                break;
+            }
+            at += due.bits;
+            assert_eq!((stepped.frame, chip.position), (due.frame, at));
+            if due.frame.kind == STOP {
+                assert_eq!((stepped.report, status(&chip)), (STOPPED, 0x60));
+                assert_eq!(walk(&image, address).bits, at - 8 * address);
+                break;
+            }
+            assert_eq!((stepped.report, status(&chip)), (FRAME, 0xE0));
+            chip = steps(&image, chip, 199);
+            assert_eq!((chip.position, status(&chip)), (at, 0xE0));
+        }
+    }
+}
+
+// ---------------------------------------------------------------- trace format
+
+/// The chip line of a powered-up chip.
+fn power_line() -> String {
+    let mut numbers = [0; CHIP_NUMBERS];
+    numbers[27] = 8191;
+    format!("C{}\n", numbers.iter().map(|number| format!(" {number}")).collect::<String>())
+}
+
+#[test]
+fn trace_answers() {
+    assert_eq!(played(b""), "");
+    assert_eq!(played(b"P"), format!("P 0\n{}", power_line()));
+    assert_eq!(played(b"R"), format!("R 0 96\n{}", power_line()));
+    // The empty image and voice at first.
+    assert_eq!(played(b"W\x70"), format!("W 3\n{}", power_line()));
+    assert_eq!(played(b"T"), format!("T 3 0 0{}\n{}", " 0".repeat(13), power_line()));
+    assert_eq!(played(b"U\x02\0\0\0"), format!("U 3 0\n{}", power_line()));
+    assert_eq!(played(b"I\x01\0\0\0\xFFT"), format!("I 1\nT 5 0 0{}\n{}", " 0".repeat(13), power_line()));
+    assert_eq!(played(b"V\0\0\0\0"), "V 5\n");
+    assert_eq!(played(&counted(b'V', &voice(1))), "V 0\n");
+    assert_eq!(played(&numbered(b'F', 0)), format!("F 3 0{}\n", " 0".repeat(13)));
+    assert_eq!(played(&numbered(b'A', 0)), "A 3 0 0 0 0 0 0\n");
+    let image = counted(b'I', &[0x03, 0x83, 0xE0]);
+    let script = [image.clone(), numbered(b'F', 0), numbered(b'F', 4), numbered(b'F', 15), numbered(b'F', 24)].concat();
+    assert_eq!(
+        played(&script),
+        "I 3\nF 0 4 1 0 0 0 0 0 0 0 0 0 0 0 0\nF 0 11 3 3 1 0 0 0 0 0 0 0 0 0 0\n\
+         F 0 4 2 15 0 0 0 0 0 0 0 0 0 0 0\nF 2 0 0 0 0 0 0 0 0 0 0 0 0 0 0\n"
+    );
+    let script = [image, numbered(b'A', 0), numbered(b'A', 2), numbered(b'A', 3)].concat();
+    let sum = 0x03 + 0x83 + 0xE0;
+    assert_eq!(played(&script), format!("I 3\nA 0 19 3 24 600 3 {sum}\nA 10 0 0 0 0 0 0\nA 2 0 0 0 0 0 0\n"));
+    // A sum above 65,535.
+    let mut long = vec![0x1F; 300 * 11];
+    for (i, byte) in bits(&"1110 1 111111".repeat(8)).iter().cycle().take(300 * 11).enumerate() {
+        long[i] = *byte;
+    }
+    long.push(0xF0);
+    let sum: i64 = long.iter().map(|byte| i64::from(*byte)).sum();
+    assert!(sum > 65_535);
+    let script = [counted(b'I', &long), numbered(b'A', 0)].concat();
+    let expected = format!("I 3301\nA 0 26404 2401 19208 480200 3301 {}\n", sum % 65_536);
+    assert_eq!(played(&script), expected);
+}
+
+#[test]
+fn trace_runs() {
+    let start = [counted(b'I', &[0xFF]), counted(b'V', &voice(3))].concat();
+    let script = [start.clone(), numbered(b'U', 0), numbered(b'U', 3), numbered(b'U', 8_192), numbered(b'U', 8_193)].concat();
+    let text = played(&script);
+    let lines: Vec<&str> = text.lines().collect();
+    assert_eq!(lines[..3], ["I 1", "V 0", "U 0 0"]);
+    assert_eq!(lines[4], "U 0 3 0 0 0");
+    assert_eq!(lines[6], format!("U 0 8192{}", " 0".repeat(8_192)));
+    assert_eq!(lines[8], "bad script");
+    assert_eq!(lines.len(), 9);
+    // The steps of a phrase in one run are those of single steps.
+    let speak = [start, b"W\x50".to_vec()].concat();
+    let run = played(&[speak.clone(), numbered(b'U', 202)].concat());
+    let single = played(&[speak, vec![b'T'; 202]].concat());
+    assert_eq!(run.lines().last(), single.lines().last());
+}
+
+#[test]
+fn trace_states() {
+    // All 63 numbers come back as they are, and in their places.
+    let numbers: Vec<i64> = (1..=63).collect();
+    let line = format!("C{}\n", numbers.iter().map(|number| format!(" {number}")).collect::<String>());
+    assert_eq!(played(&state_record(&numbers)), line);
+    let mut array = [0; CHIP_NUMBERS];
+    array.copy_from_slice(&numbers);
+    let chip = chip_of(&array);
+    assert_eq!((chip.mode, chip.used, chip.fifo[0], chip.fifo[15]), (1, 8, 9, 24));
+    assert_eq!((chip.sounding, chip.sample, chip.interval, chip.noise, chip.place), (25, 26, 27, 28, 29));
+    assert_eq!((chip.currents.energy, chip.currents.k[1], chip.currents.k[10]), (30, 32, 41));
+    assert_eq!((chip.targets.energy, chip.targets.k[1], chip.targets.k[10]), (42, 44, 53));
+    assert_eq!((chip.memory[1], chip.memory[10]), (54, 63));
+    // Levels of 17 and 255 beside 16 bytes: refused, printed as given.
+    for level in [17, 255] {
+        let mut numbers = numbers_of(&speech(&[1; 16], 0));
+        numbers[6] = level;
+        let line = format!("C{}\n", numbers.iter().map(|number| format!(" {number}")).collect::<String>());
+        let script = [
+            counted(b'I', &[0]),
+            counted(b'V', &voice(1)),
+            state_record(&numbers),
+            b"W\x70RT".to_vec(),
+            numbered(b'U', 1),
+        ]
+        .concat();
+        let none = " 0".repeat(13);
+        let expected = format!("I 1\nV 0\n{line}W 4\n{line}R 4 0\n{line}T 4 0 0{none}\n{line}U 4 0\n{line}");
+        assert_eq!(played(&script), expected);
+    }
+    // The widest numbers.
+    for extreme in [i64::MIN, i64::MAX] {
+        let script = [counted(b'I', &[0]), counted(b'V', &voice(1)), state_record(&[extreme; 63]), b"W\x10RT".to_vec()].concat();
+        let text = played(&script);
+        assert!(text.contains("W 4\n") && text.contains("R 4 0\n") && text.contains("T 4 0 0 0"));
+    }
+}
+
+#[test]
+fn bad_scripts() {
+    for script in [&b"x"[..], b"W", b"I", b"I\x01\0\0", b"I\x01\0\0\0", b"V\xFF\xFF\xFF\xFF", b"F\0\0\0", b"A", b"U\0\0\0"] {
+        assert_eq!(played(script), "bad script\n");
+    }
+    assert_eq!(played(b"U\x01\x20\0\0"), "bad script\n");
+    assert_eq!(played(b"U\xFF\xFF\xFF\xFF"), "bad script\n");
+    assert_eq!(played(b"V\0\0\0\0\nP"), "V 5\nbad script\n");
+    let state = state_record(&[0; 63]);
+    for cut in 1..state.len() {
+        assert_eq!(played(&state[..cut]), "bad script\n");
+    }
+    // At the limit and over it.
+    let full = counted(b'I', &vec![0; MOST_SCRIPT_BYTES - 5]);
+    assert_eq!(full.len(), MOST_SCRIPT_BYTES);
+    assert_eq!(played(&full), "I 1048571\n");
+    assert_eq!(played(&[full, b"P".to_vec()].concat()), "bad script\n");
+}
+
+// ---------------------------------------------------------------- garbage
+
+#[test]
+fn garbage() {
+    let mut dice = Dice(0xDEAD_BEEF);
+    for _ in 0..3_000 {
+        let length = dice.below(400) as usize;
+        played(&dice.bytes(length));
+    }
+    // Letters more often than by chance.
+    let letters = b"IVFAPSWRTU";
+    for _ in 0..3_000 {
+        let mut script = Vec::new();
+        for _ in 0..dice.below(60) {
+            let letter = letters[dice.below(10) as usize];
+            match letter {
+                b'I' => {
+                    let length = dice.below(20) as usize;
+                    script.extend(counted(b'I', &dice.bytes(length)));
+                }
+                b'V' => {
+                    let mut file = voice(1 + dice.below(64) as i64);
+                    if dice.below(3) == 0 {
+                        let at = dice.below(file.len() as u64) as usize;
+                        file[at] = dice.below(256) as u8;
+                    }
+                    script.extend(counted(b'V', &file));
+                }
+                b'F' | b'A' => {
+                    let number = if dice.below(4) == 0 { dice.next() as u32 } else { dice.below(200) as u32 };
+                    script.extend(numbered(letter, number));
+                }
+                b'U' => script.extend(numbered(b'U', dice.below(300) as u32)),
+                b'S' => {
+                    let mut numbers = numbers_of(&dice.chip(10));
+                    if dice.below(2) == 0 {
+                        let at = dice.below(63) as usize;
+                        numbers[at] = match dice.below(3) {
+                            0 => dice.next() as i64,
+                            1 => dice.within(-32_768, 32_767),
+                            _ => dice.within(0, 255),
+                        };
+                    }
+                    script.extend(state_record(&numbers));
+                }
+                b'W' => script.extend([b'W', dice.below(256) as u8]),
+                _ => script.push(letter),
+            }
+        }
+        if dice.below(4) == 0 {
+            script.truncate(dice.below(script.len() as u64 + 1) as usize);
+        }
+        played(&script);
+    }
+}
