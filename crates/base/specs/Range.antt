@@ -10,6 +10,7 @@ abbrev pub posPart : ℤ → ℕ
 posPart (pos n) = n
 posPart (negsuc n) = 0
 
+-- and the other part
 abbrev pub negPart : ℤ → ℕ
 negPart (pos n) = 0
 negPart (negsuc n) = suc n

@@ -28,6 +28,7 @@ counted t = record {
 abbrev pub intervalBegins : Clock → Bool
 intervalBegins t = eqb (t .sample .0) 0
 
+-- a frame boundary
 abbrev pub frameBegins : Clock → Bool
 frameBegins t = intervalBegins t && eqb (t .interval .0) 0
 

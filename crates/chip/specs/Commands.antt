@@ -16,6 +16,7 @@ commandOf b =
     (b / 16 % 8)
     Nothing
 
+-- the command that ROM speech takes
 abbrev pub isReset : Command → Bool
 isReset Nothing = false
 isReset ReadByte = false
@@ -33,6 +34,7 @@ reset c = powerUp
 abbrev pub noData : Port → Port
 noData p = record { pending = false; byte = 0; interrupt = p .interrupt }
 
+-- the chip without pending data
 abbrev pub dataDropped : Chip → Chip
 dataDropped c = withPort (noData (c .control .port)) c
 

@@ -26,6 +26,7 @@ WriteKeepsValid = (image : List ℕ) (c : Chip) (b : ℕ) → valid c ≡ true �
 abbrev pub AcknowledgeKeepsValid : Type 0
 AcknowledgeKeepsValid = (c : Chip) → valid c ≡ true → valid (acknowledgeOf c .chip) ≡ true
 
+-- under every read
 abbrev pub ReadKeepsValid : Type 0
 ReadKeepsValid = (c : Chip) → valid c ≡ true → valid (readOf c .chip) ≡ true
 
@@ -33,6 +34,7 @@ ReadKeepsValid = (c : Chip) → valid c ≡ true → valid (readOf c .chip) ≡ 
 abbrev pub StepKeepsValid : Type 0
 StepKeepsValid = (image voice : List ℕ) (c : Chip) → valid c ≡ true → valid (stepOf image voice c .chip) ≡ true
 
+-- under every run
 abbrev pub RunKeepsValid : Type 0
 RunKeepsValid = (image voice : List ℕ) (c : Chip) (n : ℕ) → valid c ≡ true → valid (runOf image voice c n .chip) ≡ true
 

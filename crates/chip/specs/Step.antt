@@ -41,6 +41,7 @@ reportFrame RanOut = None
 abbrev pub begins : Frame → Report
 begins f = cond (isStop f) StopReport (FrameReport f)
 
+-- what a step reports, by what the control asked of the sound
 abbrev pub reportOf : Action → Report
 reportOf Silent = NoReport
 reportOf Rest = NoReport

@@ -15,6 +15,7 @@ speaks Rom = true
 speaks Waiting = false
 speaks External = true
 
+-- the idle mode
 abbrev pub isIdle : Mode → Bool
 isIdle Idle = true
 isIdle Rom = false
@@ -25,13 +26,14 @@ isIdle External = false
 abbrev pub placeValid : Place → Bool
 placeValid p = leb (p .position) positionLimit && leb (p .nibble) 4
 
--- FIFO level 0 in idle and ROM speech, 0..8 in waiting, 1..16 in external speech
+-- FIFO level 0 in idle and ROM speech, 0..8 in waiting, 1..16 in external speech: the least
 abbrev pub leastLevel : Mode → ℕ
 leastLevel Idle = 0
 leastLevel Rom = 0
 leastLevel Waiting = 0
 leastLevel External = 1
 
+-- and the most
 abbrev pub mostLevel : Mode → ℕ
 mostLevel Idle = 0
 mostLevel Rom = 0
@@ -45,6 +47,7 @@ mostUsed Rom = 0
 mostUsed Waiting = 0
 mostUsed External = 7
 
+-- each byte is 0
 abbrev pub allZero : List ℕ → Bool
 allZero [] = true
 allZero (b ∷ bs) = eqb b 0 && allZero bs

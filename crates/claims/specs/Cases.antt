@@ -16,6 +16,7 @@ pub record Case : Type 0 where
   pub given : List ℤ
   pub paper : List ℤ
 
+-- numbers that are not negative
 abbrev numbers : List ℕ → List ℤ
 numbers = map pos
 
@@ -37,6 +38,7 @@ abbrev noises : ℕ → ℕ → List ℕ
 noises zero register = []
 noises (suc n) register = register ∷ noises n (nextNoise register)
 
+-- the table
 unfoldable pub cases : List Case
 cases =
     record { given = walked (0xFF ∷ []) 0; paper = numbers (TAKEN ∷ 4 ∷ 1 ∷ []) } ∷

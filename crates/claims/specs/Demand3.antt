@@ -52,6 +52,7 @@ pub record Loads (a : ℕ) : Type 0 where
   pub load3 : Load byte3 (a / 4096 % 16)
   pub load4 : LoadTwoBits byte4 (a / 65536 % 4)
 
+-- the five bytes
 abbrev pub loadBytes : {a : ℕ} → Loads a → List ℕ
 loadBytes l = l .byte0 ∷ l .byte1 ∷ l .byte2 ∷ l .byte3 ∷ l .byte4 ∷ []
 
@@ -66,6 +67,7 @@ speaking image l s = afterBytes image powerUp (loadBytes l ++ (s .byte ∷ []))
 
 -- ---- the calls
 
+-- a call of the list
 pub data Call : Type 0 where
   -- a sample step, with a voice file
   step : List ℕ → Call
@@ -112,6 +114,7 @@ reportOf image c (run voice n) = Nothing
 reportOf image c read = Nothing
 reportOf image c (write b) = Nothing
 
+-- all of it
 abbrev pub answerOf : List ℕ → Chip → Call → Answer
 answerOf image c x = record {
   refusal = refusalOf image c x;
@@ -173,6 +176,7 @@ module _ (image : List ℕ) (a : ℕ) (fs : List Frame) where
   reportDue n read = Nothing
   reportDue n (write b) = Nothing
 
+  -- the answer that is due to a call after n steps
   abbrev pub answerDue : ℕ → Call → Answer
   answerDue n x = record {
     refusal = refusalDue n x;
@@ -193,6 +197,7 @@ module _ (image : List ℕ) (a : ℕ) (fs : List Frame) where
   Refused n read = Unit {0}
   Refused n (write b) = writeDue n b ≡ TAKEN → ⊥
 
+  -- and so is each of the list, the first call being after n steps
   unfoldable pub WritesRefused : ℕ → List Call → Type 0
   WritesRefused n [] = Unit {0}
   WritesRefused n (x ∷ xs) = Refused n x × WritesRefused (n + stepsIn x) xs

@@ -31,15 +31,18 @@ loads = record {
   load4 = (refl, refl);
 }
 
+-- Speak, with the top bit
 abbrev pub speak : SpeakByte
 speak = record { byte = 0xD0; speak = refl }
 
+-- an image, the frames there, calls and their answers
 pub record Example : Type 0 where
   pub image : List ℕ
   pub frames : List Frame
   pub calls : List Call
   pub answers : List Answer
 
+-- refusal, byte, report, position
 abbrev answer : ℕ → ℕ → Report → ℕ → Answer
 answer refusal byte report position = record { refusal = refusal; byte = byte; report = report; position = position }
 

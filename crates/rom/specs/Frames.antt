@@ -57,6 +57,7 @@ bitsOf P f = encoded (fieldsOf P f)
 abbrev pub bitCount : ℕ → Frame → ℕ
 bitCount P f = totalWidth (fieldsOf P f)
 
+-- the stop
 abbrev pub isStop : Frame → Bool
 isStop Silence = false
 isStop Stop = true

@@ -25,6 +25,7 @@ module _ (C : Code) where
   bitsAll [] = []
   bitsAll (f ∷ fs) = C .bits f ++ bitsAll fs
 
+  -- each item is proper
   abbrev pub AllProper : List (C .Item) → Type 0
   AllProper [] = Unit {0}
   AllProper (f ∷ fs) = C .Proper f × AllProper fs
@@ -64,6 +65,7 @@ module _ (C : Code) where
   itemsFrom read at zero = []
   itemsFrom read at (suc n) = itemsOf (read at) (λ next. itemsFrom read next n)
 
+  -- some item is a stop
   abbrev pub hasStop : List (C .Item) → Bool
   hasStop [] = false
   hasStop (f ∷ fs) = C .stops f || hasStop fs

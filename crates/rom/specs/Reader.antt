@@ -25,10 +25,11 @@ voicedAt s at e p =
     Voiced e p (field s at 5) (field s (at + 5) 5) (field s (at + 10) 4) (field s (at + 14) 4) (field s (at + 18) 4)
     (field s (at + 22) 4) (field s (at + 26) 4) (field s (at + 30) 3) (field s (at + 33) 3) (field s (at + 36) 3)
 
--- the energies by which the reader tells a silence and a stop
+-- the energy by which the reader tells a silence
 abbrev pub silenceCode : ℕ
 silenceCode = 0
 
+-- the energy by which it tells a stop; the central law ties both to the table of kinds
 abbrev pub stopCode : ℕ
 stopCode = 15
 

@@ -16,6 +16,7 @@ towardBy d current target = current +ℤ shrZ (target -ℤ current) d
 abbrev pub divisors : List ℕ
 divisors = 8 ∷ 8 ∷ 8 ∷ 4 ∷ 4 ∷ 2 ∷ 2 ∷ 1 ∷ []
 
+-- d of an interval
 abbrev pub divisor : Intervals → ℕ
 divisor interval = getD divisors (interval .0) 1
 

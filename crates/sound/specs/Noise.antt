@@ -9,6 +9,7 @@ bitOf n k = n / 2 ^ k % 2
 unfoldable pub noiseBit : ℕ → ℕ
 noiseBit n = (bitOf n 12 + bitOf n 3 + bitOf n 2 + bitOf n 0) % 2
 
+-- twice itself plus the new bit, modulo 8192
 unfoldable pub nextNoise : ℕ → ℕ
 unfolding noiseBit
 nextNoise n = (2 * n + noiseBit n) % 8192

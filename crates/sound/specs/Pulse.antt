@@ -4,5 +4,6 @@ use Prim.Native.Nat.{ℕ, _+_}
 use lib.IntN.{ℤ, pos}
 use lib.Signed.{leZ}
 
+-- the place after a sample
 abbrev pub nextPulse : ℕ → ℤ → ℕ
 nextPulse place pitch = cond (leZ pitch (pos (place + 1))) 0 (place + 1)

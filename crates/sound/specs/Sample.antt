@@ -51,8 +51,10 @@ sampled N file s =
 abbrev pub sampleStep : ℕ → List ℕ → Sound → Sound × ℤ
 sampleStep N file s = (sampled N file s .sound, sampled N file s .value)
 
+-- the sound after n samples
 abbrev pub soundAfter : ℕ → List ℕ → ℕ → Sound → Sound
 soundAfter N file n s = stateAfter (sampleStep N file) n s
 
+-- the values of n samples
 abbrev pub valuesOf : ℕ → List ℕ → ℕ → Sound → List ℤ
 valuesOf N file n s = outputs (sampleStep N file) n s

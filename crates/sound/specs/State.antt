@@ -28,6 +28,7 @@ noiseValid s = leb 1 (s .noise) && leb (s .noise) 8191
 abbrev pub pulseValid : Sound → Bool
 pulseValid s = leb (s .pulse) 1022
 
+-- the sound's ranges
 unfoldable pub soundValid : Sound → Bool
 soundValid s = (paramsValid (s .current) && paramsValid (s .target)) && (memoryValid s && (noiseValid s && pulseValid s))
 
@@ -35,6 +36,7 @@ soundValid s = (paramsValid (s .current) && paramsValid (s .target)) && (memoryV
 abbrev pub restParams : Params
 restParams = record { energy = pos 0; pitch = pos 0; k = replicate 10 (pos 0) }
 
+-- the sound with these, an empty filter and noise 8191
 abbrev pub restSound : Sound
 restSound = record { current = restParams; target = restParams; memory = replicate 10 (pos 0); noise = 8191; pulse = 0 }
 
