@@ -54,7 +54,7 @@ fn branch_address(image: &[u8], address: usize) -> usize
 }
 
 impl Place {
-    pub fn load(self, value: u8) -> Place
+    pub(crate) fn load(self, value: u8) -> Place
         requires { ⌜ (self .nibble ≤ 4) × (value < 16) ⌝ }
         ensures { λ r. ⌜ r ≡ loaded self value ⌝ }
     {
@@ -66,7 +66,7 @@ impl Place {
         }
     }
 
-    pub fn past_byte(self) -> Place
+    pub(crate) fn past_byte(self) -> Place
         requires { ⌜ self .position ≤ positionLimit ⌝ }
         ensures { λ r. ⌜ r ≡ pastByte self ⌝ }
     {
@@ -76,7 +76,7 @@ impl Place {
         }
     }
 
-    pub fn branch(self, image: &[u8]) -> Place
+    pub(crate) fn branch(self, image: &[u8]) -> Place
         requires { ⌜ self .position ≤ positionLimit ⌝ }
         ensures { λ r. ⌜ r ≡ branched (now (image .entry)) self ⌝ }
     {
@@ -86,7 +86,7 @@ impl Place {
         }
     }
 
-    pub fn restart(self) -> Place
+    pub(crate) fn restart(self) -> Place
         ensures { λ r. ⌜ r ≡ restarted self ⌝ }
     {
         Place {

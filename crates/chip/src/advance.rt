@@ -57,7 +57,7 @@ impl Clock {
         }
     }
 
-    pub fn interval_begins(self) -> bool
+    pub(crate) fn interval_begins(self) -> bool
         ensures { λ r. ⌜ r ≡ intervalBegins self ⌝ }
     {
         self.sample.0 == 0
@@ -218,7 +218,7 @@ impl Control {
     }
 
     // A sample step of the control.
-    pub fn advance(self, image: &[u8]) -> Moved
+    pub(crate) fn advance(self, image: &[u8]) -> Moved
         requires { ⌜ (length (now image) ≤ imageLimit) × (controlValid self ≡ true) ⌝ }
         ensures { λ r. ⌜ r ≡ advanced (now (image .entry)) self ⌝ }
     {

@@ -19,7 +19,7 @@ pub enum Command {
 }
 
 // The command of a byte, by its middle code.
-pub fn command_of(byte: u8) -> Command
+pub(crate) fn command_of(byte: u8) -> Command
     ensures { λ r. ⌜ r ≡ commandOf byte ⌝ }
 {
     let code = byte / 16 % 8;
@@ -36,7 +36,7 @@ pub fn command_of(byte: u8) -> Command
 }
 
 impl Command {
-    pub fn is_reset(self) -> bool
+    pub(crate) fn is_reset(self) -> bool
         ensures { λ r. ⌜ r ≡ isReset self ⌝ }
     {
         match self {
@@ -52,7 +52,7 @@ impl Command {
 }
 
 impl Port {
-    pub fn no_data(self) -> Port
+    pub(crate) fn no_data(self) -> Port
         ensures { λ r. ⌜ r ≡ noData self ⌝ }
     {
         Port {
@@ -64,7 +64,7 @@ impl Port {
 }
 
 impl Chip {
-    pub fn reset(self) -> Chip
+    pub(crate) fn reset(self) -> Chip
         ensures { λ r. ⌜ r ≡ reset self ⌝ }
     {
         Chip::power_up()
@@ -91,7 +91,7 @@ impl Chip {
     }
 
     // What a command does.
-    pub fn obey(self, image: &[u8], byte: u8, command: Command) -> Chip
+    pub(crate) fn obey(self, image: &[u8], byte: u8, command: Command) -> Chip
         requires { ⌜ (self .control .place .position ≤ positionLimit) × (self .control .place .nibble ≤ 4) ⌝ }
         ensures { λ r. ⌜ r ≡ obeyed (now (image .entry)) self byte command ⌝ }
     {

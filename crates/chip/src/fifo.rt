@@ -25,7 +25,7 @@ fn shift(bytes: [u8; 16], n: usize) -> [u8; 16]
 }
 
 impl Fifo {
-    pub fn append(self, byte: u8) -> Fifo
+    pub(crate) fn append(self, byte: u8) -> Fifo
         requires { ⌜ self .level < fifoSize ⌝ }
         ensures { λ r. ⌜ r ≡ appended self byte ⌝ }
     {
@@ -36,13 +36,13 @@ impl Fifo {
         fifo
     }
 
-    pub fn is_low(self) -> bool
+    pub(crate) fn is_low(self) -> bool
         ensures { λ r. ⌜ r ≡ bufferLow self ⌝ }
     {
         self.level <= Chip::LOW_LEVEL
     }
 
-    pub fn is_empty(self) -> bool
+    pub(crate) fn is_empty(self) -> bool
         ensures { λ r. ⌜ r ≡ bufferEmpty self ⌝ }
     {
         self.level == 0

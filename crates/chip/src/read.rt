@@ -29,7 +29,7 @@ fn flag(on: bool, weight: u8) -> u8
 }
 
 impl Control {
-    pub fn status(self) -> u8
+    pub(crate) fn status(self) -> u8
         ensures { λ r. ⌜ r ≡ statusOf self ⌝ }
     {
         let mode = self.mode;
@@ -38,7 +38,7 @@ impl Control {
     }
 
     // The byte that the bus gets.
-    pub fn bus_byte(self) -> u8
+    pub(crate) fn bus_byte(self) -> u8
         ensures { λ r. ⌜ r ≡ busByte self ⌝ }
     {
         let port = self.port;

@@ -57,7 +57,7 @@ pub struct Chip {
 }
 
 impl Fifo {
-    pub fn empty() -> Fifo
+    pub(crate) fn empty() -> Fifo
         ensures { λ r. ⌜ r ≡ emptyFifo ⌝ }
     {
         Fifo {
@@ -69,7 +69,7 @@ impl Fifo {
 }
 
 impl Clock {
-    pub fn stopped() -> Clock
+    pub(crate) fn stopped() -> Clock
         ensures { λ r. ⌜ r ≡ stopped ⌝ }
     {
         Clock {
@@ -79,7 +79,7 @@ impl Clock {
         }
     }
 
-    pub fn started() -> Clock
+    pub(crate) fn started() -> Clock
         ensures { λ r. ⌜ r ≡ started ⌝ }
     {
         Clock {
@@ -138,7 +138,7 @@ impl Chip {
         Chip { control, sound }
     }
 
-    pub fn with_place(self, place: Place) -> Chip
+    pub(crate) fn with_place(self, place: Place) -> Chip
         ensures { λ r. ⌜ r ≡ withPlace place self ⌝ }
     {
         let mut control = self.control;
@@ -147,7 +147,7 @@ impl Chip {
         Chip { control, sound }
     }
 
-    pub fn with_fifo(self, fifo: Fifo) -> Chip
+    pub(crate) fn with_fifo(self, fifo: Fifo) -> Chip
         ensures { λ r. ⌜ r ≡ withFifo fifo self ⌝ }
     {
         let mut control = self.control;
@@ -156,7 +156,7 @@ impl Chip {
         Chip { control, sound }
     }
 
-    pub fn with_port(self, port: Port) -> Chip
+    pub(crate) fn with_port(self, port: Port) -> Chip
         ensures { λ r. ⌜ r ≡ withPort port self ⌝ }
     {
         let mut control = self.control;
@@ -165,7 +165,7 @@ impl Chip {
         Chip { control, sound }
     }
 
-    pub fn with_mode(self, mode: Mode) -> Chip
+    pub(crate) fn with_mode(self, mode: Mode) -> Chip
         ensures { λ r. ⌜ r ≡ withMode mode self ⌝ }
     {
         let control = self.control;
@@ -187,7 +187,7 @@ impl Chip {
     }
 
     // TS rises: a speaking mode, the sound at rest and started.
-    pub fn talk(self, mode: Mode) -> Chip
+    pub(crate) fn talk(self, mode: Mode) -> Chip
         ensures { λ r. ⌜ r ≡ talking mode self ⌝ }
     {
         let control = self.control;

@@ -10,7 +10,7 @@ use crate::state::Place;
 use crate::state::Port;
 
 impl Mode {
-    pub fn speaks(self) -> bool
+    pub(crate) fn speaks(self) -> bool
         ensures { λ r. ⌜ r ≡ speaks self ⌝ }
     {
         match self {
@@ -21,7 +21,7 @@ impl Mode {
         }
     }
 
-    pub fn is_idle(self) -> bool
+    pub(crate) fn is_idle(self) -> bool
         ensures { λ r. ⌜ r ≡ isIdle self ⌝ }
     {
         match self {

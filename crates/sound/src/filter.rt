@@ -70,7 +70,7 @@ fn stages(k: &[i32; 10], memory: &mut [i32; 10], above: i32, left: usize) -> i32
 }
 
 // Forward value 1 of an input, with the memory renewed.
-pub fn filter(k: &[i32; 10], memory: &mut [i32; 10], input: i32) -> i32
+pub(crate) fn filter(k: &[i32; 10], memory: &mut [i32; 10], input: i32) -> i32
     requires { ⌜ (TenBetween 512 511 (now k)) × (TenBetween 8192 8191 (now memory)) × (Between 130944 130944 input) ⌝ }
     ensures { λ r. ⌜ r ≡ forward (now (k .entry)) (now (memory .entry)) input ⌝ }
     ensures { λ r. ⌜ now (memory .exit) ≡ newMemory (now (k .entry)) (now (memory .entry)) input ⌝ }

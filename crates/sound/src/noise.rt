@@ -7,7 +7,7 @@ ghost use Rattle.sound.specs.Noise.{nextNoise};
 const TAPS: u32 = 0b1_0000_0000_1101;
 
 // The register after a sample: twice itself plus the parity of the tapped bits, modulo 8192.
-pub fn next_noise(register: u32) -> u32
+pub(crate) fn next_noise(register: u32) -> u32
     requires { ⌜ register < 8192 ⌝ }
     ensures { λ r. ⌜ r ≡ nextNoise register ⌝ }
 {

@@ -4,7 +4,7 @@ ghost use Prim.Native.Nat.{_≤_};
 ghost use Rattle.sound.specs.Pulse.{nextPulse};
 
 // The place after a sample: up by one, or 0 if that is the pitch or more.
-pub fn next_pulse(place: u32, pitch: i32) -> u32
+pub(crate) fn next_pulse(place: u32, pitch: i32) -> u32
     requires { ⌜ place ≤ 1022 ⌝ }
     ensures { λ r. ⌜ r ≡ nextPulse place pitch ⌝ }
 {
