@@ -14,11 +14,12 @@ use Rattle.rom.specs.Bits.{imageValid}
 use Rattle.voice.specs.Check.{voiceFault, version}
 use Rattle.voice.specs.Layout.{pitches}
 use Rattle.sound.specs.declared.sample.Sampled.{Sampled}
-use Rattle.chip.specs.Types.{Chip, Moved, Report, Stepped}
+use Rattle.chip.specs.Types.{Control, Chip, Moved, Report, Stepped}
 use Rattle.chip.specs.Validity.{valid}
 use Rattle.chip.specs.Advance.{advanced}
 use Rattle.chip.specs.Step.{reportOf, sounded, steps, stepFault, notStepped, stepOf}
 use Rattle.chip.specs.Run.{sampleStep, notRun, runOf, bufferOf}
+use Rattle.chip.specs.Laws.{ControlAlone}
 
 -- where a fault with its own number is none, and none of the rest applies
 none-of : (v rest : ℕ) → cond (not (eqb v 0)) v rest ≡ 0 → (v ≡ 0) × (rest ≡ 0)
@@ -77,3 +78,12 @@ module _ (image voice : List ℕ) (c : Chip) where
   pub sample-step-is : {r : Stepped} {x : ℤ} → stepFault image voice c ≡ 0 → r ≡ steps image voice c → x ≡ r .sample
       → (r .chip, x) ≡ sampleStep image voice c
   sample-step-is h r x = rw x (ap (λ (r : Stepped). (r .chip, r .sample)) (step-taken refl h r))
+
+-- ---- the control does not depend on the sound
+
+pub control-alone : ControlAlone
+unfolding steps
+control-alone image voice voice′ c d e = record {
+  control = ap (λ (k : Control). advanced image k .control) e;
+  report = ap (λ (k : Control). reportOf (advanced image k .action)) e;
+}

@@ -5,13 +5,13 @@ use mathlib.Core.List.{List, _++_}
 use Prim.Native.Nat.{ℕ, _+_, _*_, _-_, _<_, _≤_}
 use lib.ListN.{length, drop}
 use Rattle.rom.specs.Bits.{digits}
-use Rattle.chip.specs.Types.{Mode, Fifo, Chip}
+use Rattle.chip.specs.Types.{Mode, Fifo, Chip, Stepped}
 use Rattle.chip.specs.State.{fifoSize, powerUp}
 use Rattle.chip.specs.Validity.{fifoValid, valid}
 use Rattle.chip.specs.Buffer.{appended, usedUp, heldBits}
 use Rattle.chip.specs.Write.{writeOf}
 use Rattle.chip.specs.Read.{acknowledgeOf, readOf}
-use Rattle.chip.specs.Step.{stepOf}
+use Rattle.chip.specs.Step.{steps, stepOf}
 use Rattle.chip.specs.Run.{runOf}
 
 -- The power-up state is valid.
@@ -37,6 +37,16 @@ StepKeepsValid = (image voice : List ℕ) (c : Chip) → valid c ≡ true → va
 -- under every run
 abbrev pub RunKeepsValid : Type 0
 RunKeepsValid = (image voice : List ℕ) (c : Chip) (n : ℕ) → valid c ≡ true → valid (runOf image voice c n .chip) ≡ true
+
+-- What a step does to the control and what it reports depend on the image and the control alone, not on the voice file or the
+-- sound.
+pub record SameStep (s t : Stepped) : Type 0 where
+  pub control : s .chip .control ≡ t .chip .control
+  pub report : s .report ≡ t .report
+
+abbrev pub ControlAlone : Type 0
+ControlAlone =
+    (image voice voice′ : List ℕ) (c d : Chip) → c .control ≡ d .control → SameStep (steps image voice c) (steps image voice′ d)
 
 -- The FIFO holds eight bits for each byte, less those used.
 abbrev pub HeldLength : Type 0
