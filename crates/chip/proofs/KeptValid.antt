@@ -13,16 +13,21 @@ use Rattle.base.proofs.Booleans.{both-true}
 use Rattle.rom.specs.Bits.{imageLimit}
 use Rattle.rom.proofs.Checks.{valid-length}
 use Rattle.sound.specs.State.{soundValid, restSound, atRest}
-use Rattle.chip.specs.Types.{Mode, Idle, Rom, Waiting, External, Place, Fifo, Port, Chip, Command, Nothing, ReadByte, ReadAndBranch, LoadAddress, Speak, SpeakExternal, Reset}
-use Rattle.chip.specs.State.{positionLimit, startLevel, addressLimit, started, powerUp, withPlace, withPort, withFifo, talking}
-use Rattle.chip.specs.Validity.{placeValid, allZero, fifoValid, portValid, clockValid, controlValid, valid, mostLevel, leastLevel, mostUsed}
-use Rattle.chip.specs.Addresses.{loaded, pastByte, branched, restarted, withNibble}
-use Rattle.chip.specs.Buffer.{appended}
-use Rattle.chip.specs.Commands.{commandOf, isReset, noData, dataDropped, dataTaken, obeyed}
-use Rattle.chip.specs.Write.{beyondAt, beyond, writeFault, buffered, writtenIn, writeOf}
-use Rattle.chip.specs.Read.{acknowledgedPort, acknowledgeOf, readOf}
+use Rattle.chip.specs.Types.{Mode, Idle, Rom, Waiting, External, Place, Fifo, Port, Command, Nothing, ReadByte, ReadAndBranch, LoadAddress, Speak, SpeakExternal, Reset, Chip}
+use Rattle.control.specs.State.{positionLimit, startLevel, addressLimit, started}
+use Rattle.control.specs.Validity.{placeValid, allZero, fifoValid, portValid, clockValid, controlValid, mostLevel, leastLevel, mostUsed}
+use Rattle.control.specs.Addresses.{loaded, pastByte, branched, restarted, withNibble}
+use Rattle.control.specs.Buffer.{appended}
+use Rattle.control.specs.Commands.{commandOf, isReset, beyondAt, beyond}
+use Rattle.control.specs.Status.{noData, acknowledgedPort}
+use Rattle.control.proofs.Ranges.{FifoRanges, place-ranges, place-in-range, fifo-ranges, fifo-in-range}
+use Rattle.chip.specs.State.{powerUp, withPlace, withPort, withFifo, talking}
+use Rattle.chip.specs.Validity.{valid}
+use Rattle.chip.specs.Commands.{dataDropped, dataTaken, obeyed}
+use Rattle.chip.specs.Write.{writeFault, buffered, writtenIn, writeOf}
+use Rattle.chip.specs.Read.{acknowledgeOf, readOf}
 use Rattle.chip.specs.Laws.{PowerUpValid, WriteKeepsValid, AcknowledgeKeepsValid, ReadKeepsValid}
-use Rattle.chip.proofs.Ranges.{ChipRanges, FifoRanges, chip-ranges, in-ranges, place-ranges, place-in-range, fifo-ranges, fifo-in-range}
+use Rattle.chip.proofs.Ranges.{ChipRanges, chip-ranges, in-ranges}
 use Rattle.chip.proofs.Writing.{Found, found, found-ranges}
 
 pub rest-sound-valid : soundValid restSound ≡ true

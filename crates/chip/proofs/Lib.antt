@@ -1,10 +1,6 @@
 pub mod Ranges
-pub mod Nibbles
 pub mod Writing
 pub mod Reading
 pub mod KeptValid
-pub mod Held
-pub mod Shifting
-pub mod Moving
 pub mod Stepping
 pub mod StepsValid

@@ -4,9 +4,10 @@ use mathlib.Core.Path.{_≡_, refl}
 use Prim.Native.Nat.{ℕ}
 use borrow.Author.Tests.{eq-eqb, ne-eqb}
 use Rattle.base.proofs.Faults.{answered, refused-with}
+use Rattle.control.specs.Status.{busByte, acknowledgedPort}
 use Rattle.chip.specs.Types.{Chip, Acknowledged}
 use Rattle.chip.specs.State.{withPort}
-use Rattle.chip.specs.Read.{busByte, acknowledgedPort, readFault, notAcknowledged, acknowledgeOf, readOf}
+use Rattle.chip.specs.Read.{readFault, notAcknowledged, acknowledgeOf, readOf}
 
 module _ (c : Chip) where
   module _ {n : ℕ} (e : n ≡ readFault c) where

@@ -14,9 +14,9 @@ use Rattle.rom.specs.Bits.{imageValid}
 use Rattle.voice.specs.Check.{voiceFault, version}
 use Rattle.voice.specs.Layout.{pitches}
 use Rattle.sound.specs.declared.sample.Sampled.{Sampled}
-use Rattle.chip.specs.Types.{Control, Chip, Moved, Report, Stepped}
+use Rattle.chip.specs.Types.{Control, Moved, Chip, Report, Stepped}
+use Rattle.speech.specs.Advance.{advanced}
 use Rattle.chip.specs.Validity.{valid}
-use Rattle.chip.specs.Advance.{advanced}
 use Rattle.chip.specs.Step.{reportOf, sounded, steps, stepFault, notStepped, stepOf}
 use Rattle.chip.specs.Run.{sampleStep, notRun, runOf, bufferOf}
 use Rattle.chip.specs.Laws.{ControlAlone}

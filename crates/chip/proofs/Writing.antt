@@ -8,11 +8,12 @@ use native.Mathlib.Omega.{arith}
 use borrow.Author.Tests.{eqb-false, not-false}
 use Rattle.base.proofs.Faults.{answered, refused-with, none-first}
 use Rattle.rom.specs.Bits.{imageValid}
-use Rattle.chip.specs.Types.{Mode, Idle, Rom, Waiting, External, Chip, Command}
-use Rattle.chip.specs.State.{positionLimit, fifoSize}
-use Rattle.chip.specs.Validity.{valid, mostLevel}
-use Rattle.chip.specs.Commands.{commandOf}
-use Rattle.chip.specs.Write.{waits, beyond, writeFault, notWritten, writtenIn, writeOf}
+use Rattle.chip.specs.Types.{Mode, Idle, Rom, Waiting, External, Command, Chip}
+use Rattle.control.specs.State.{positionLimit, fifoSize}
+use Rattle.control.specs.Validity.{mostLevel}
+use Rattle.control.specs.Commands.{commandOf, waits, beyond}
+use Rattle.chip.specs.Validity.{valid}
+use Rattle.chip.specs.Write.{writeFault, notWritten, writtenIn, writeOf}
 use Rattle.chip.proofs.Ranges.{valid-place, valid-fifo}
 
 -- a FIFO with room, in a mode where the byte does not wait

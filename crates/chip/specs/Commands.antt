@@ -1,38 +1,16 @@
 -- The commands (01, "Commands, FIFO, status"), as the idle chip obeys them.
-use mathlib.Core.Bool.{Bool, true, false}
-use mathlib.Core.List.{List, [], _∷_}
-use Prim.Native.Nat.{ℕ, _/_, _%_}
-use lib.ListN.{getD}
+use mathlib.Core.Bool.{true}
+use mathlib.Core.List.{List}
+use Prim.Native.Nat.{ℕ, _%_}
 use Rattle.rom.specs.Bits.{field}
-use Rattle.chip.specs.Types.{Rom, Waiting, Port, Chip, Command, Nothing, ReadByte, ReadAndBranch, LoadAddress, Speak, SpeakExternal, Reset}
+use Rattle.chip.specs.Types.{Rom, Waiting, Port, Command, Nothing, ReadByte, ReadAndBranch, LoadAddress, Speak, SpeakExternal, Reset, Chip}
+use Rattle.control.specs.Addresses.{loaded, pastByte, branched, restarted}
+use Rattle.control.specs.Status.{noData}
 use Rattle.chip.specs.State.{powerUp, withPlace, withPort, withMode, talking}
-use Rattle.chip.specs.Addresses.{loaded, pastByte, branched, restarted}
-
--- the middle code, weights 40, 20, 10, chooses; the top bit is ignored
-abbrev pub commandOf : ℕ → Command
-commandOf b =
-    getD
-    (Nothing ∷ ReadByte ∷ Nothing ∷ ReadAndBranch ∷ LoadAddress ∷ Speak ∷ SpeakExternal ∷ Reset ∷ [])
-    (b / 16 % 8)
-    Nothing
-
--- the command that ROM speech takes
-abbrev pub isReset : Command → Bool
-isReset Nothing = false
-isReset ReadByte = false
-isReset ReadAndBranch = false
-isReset LoadAddress = false
-isReset Speak = false
-isReset SpeakExternal = false
-isReset Reset = true
 
 -- Reset gives the power-up state
 abbrev pub reset : Chip → Chip
 reset c = powerUp
-
--- a data byte is pending only if the last taken write was Read Byte: every other taken command drops it
-abbrev pub noData : Port → Port
-noData p = record { pending = false; byte = 0; interrupt = p .interrupt }
 
 -- the chip without pending data
 abbrev pub dataDropped : Chip → Chip

@@ -1,14 +1,11 @@
--- What is proved of every operation: the ranges are kept; and what the FIFO holds.
+-- What is proved of every operation: the ranges are kept.
 use mathlib.Core.Path.{_≡_}
 use mathlib.Core.Bool.{true}
-use mathlib.Core.List.{List, _++_}
-use Prim.Native.Nat.{ℕ, _+_, _*_, _-_, _<_, _≤_}
-use lib.ListN.{length, drop}
-use Rattle.rom.specs.Bits.{digits}
-use Rattle.chip.specs.Types.{Mode, Fifo, Chip, Stepped}
-use Rattle.chip.specs.State.{fifoSize, powerUp}
-use Rattle.chip.specs.Validity.{fifoValid, valid}
-use Rattle.chip.specs.Buffer.{appended, usedUp, heldBits}
+use mathlib.Core.List.{List}
+use Prim.Native.Nat.{ℕ}
+use Rattle.chip.specs.Types.{Chip, Stepped}
+use Rattle.chip.specs.State.{powerUp}
+use Rattle.chip.specs.Validity.{valid}
 use Rattle.chip.specs.Write.{writeOf}
 use Rattle.chip.specs.Read.{acknowledgeOf, readOf}
 use Rattle.chip.specs.Step.{steps, stepOf}
@@ -47,17 +44,3 @@ pub record SameStep (s t : Stepped) : Type 0 where
 abbrev pub ControlAlone : Type 0
 ControlAlone =
     (image voice voice′ : List ℕ) (c d : Chip) → c .control ≡ d .control → SameStep (steps image voice c) (steps image voice′ d)
-
--- The FIFO holds eight bits for each byte, less those used.
-abbrev pub HeldLength : Type 0
-HeldLength = (m : Mode) (f : Fifo) → fifoValid m f ≡ true → length (heldBits f) ≡ 8 * f .level - f .used
-
--- A byte more puts its bits behind those held.
-abbrev pub HeldAppended : Type 0
-HeldAppended =
-    (m : Mode) (f : Fifo) (b : ℕ) → fifoValid m f ≡ true → f .level < fifoSize → heldBits (appended f b) ≡ heldBits f ++ digits 8 b
-
--- With n bits of those held gone, all of them perhaps, it holds the rest.
-abbrev pub HeldUsed : Type 0
-HeldUsed =
-    (m : Mode) (f : Fifo) (n : ℕ) → fifoValid m f ≡ true → n ≤ length (heldBits f) → heldBits (usedUp f (f .used + n)) ≡ drop n (heldBits f)

@@ -1,12 +1,9 @@
 pub mod Types
 pub mod State
 pub mod Validity
-pub mod Addresses
-pub mod Buffer
 pub mod Commands
 pub mod Write
 pub mod Read
-pub mod Advance
 pub mod Step
 pub mod Run
 pub mod Laws

@@ -19,9 +19,10 @@ use Rattle.sound.specs.Targets.{withTargets}
 use Rattle.sound.specs.Sample.{sampled}
 use Rattle.sound.specs.declared.state.Sound.{Sound}
 use Rattle.sound.specs.declared.sample.Sampled.{Sampled}
-use Rattle.chip.specs.Types.{Clock, Chip, Action, Silent, Rest, RunOut, Begin, Continue, Report, NoReport, FrameReport, StopReport, RanOut, Stepped}
+use Rattle.chip.specs.Types.{Clock, Action, Silent, Rest, RunOut, Begin, Continue, Chip, Report, NoReport, FrameReport, StopReport, RanOut, Stepped}
+use Rattle.control.specs.Counters.{intervalBegins}
+use Rattle.speech.specs.Advance.{advanced}
 use Rattle.chip.specs.Validity.{valid}
-use Rattle.chip.specs.Advance.{intervalBegins, advanced}
 
 -- each step reports one of: nothing, frame, stop, ran out, with the numbers 0, 1, 2, 3
 abbrev pub reportNumber : Report → ℕ

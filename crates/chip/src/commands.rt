@@ -1,67 +1,13 @@
-// The commands, as the idle chip obeys them.
+// What each command does, in idle.
 ghost use mathlib.Core.Path.{_≡_};
 ghost use Prim.Native.Nat.{_≤_};
-ghost use Rattle.chip.specs.State.{positionLimit};
-ghost use Rattle.chip.specs.Commands.{commandOf, isReset, reset, noData, dataDropped, dataTaken, obeyed};
+ghost use Rattle.control.specs.State.{positionLimit};
+ghost use Rattle.chip.specs.Commands.{reset, dataDropped, dataTaken, obeyed};
 use crate::state::Chip;
-use crate::state::Mode;
-use crate::state::Port;
+use control::commands::Command;
+use control::state::Mode;
+use control::state::Port;
 use rom::bits::field_at;
-
-pub enum Command {
-    Nothing,
-    ReadByte,
-    ReadAndBranch,
-    LoadAddress,
-    Speak,
-    SpeakExternal,
-    Reset,
-}
-
-// The command of a byte, by its middle code.
-pub(crate) fn command_of(byte: u8) -> Command
-    ensures { λ r. ⌜ r ≡ commandOf byte ⌝ }
-{
-    let code = byte / 16 % 8;
-    match code {
-        0 => Command::Nothing,
-        1 => Command::ReadByte,
-        2 => Command::Nothing,
-        3 => Command::ReadAndBranch,
-        4 => Command::LoadAddress,
-        5 => Command::Speak,
-        6 => Command::SpeakExternal,
-        _ => Command::Reset,
-    }
-}
-
-impl Command {
-    pub(crate) fn is_reset(self) -> bool
-        ensures { λ r. ⌜ r ≡ isReset self ⌝ }
-    {
-        match self {
-            Command::Nothing => false,
-            Command::ReadByte => false,
-            Command::ReadAndBranch => false,
-            Command::LoadAddress => false,
-            Command::Speak => false,
-            Command::SpeakExternal => false,
-            Command::Reset => true,
-        }
-    }
-}
-
-impl Port {
-    pub(crate) fn no_data(self) -> Port
-        ensures { λ r. ⌜ r ≡ noData self ⌝ }
-    {
-        Port {
-            pending: false,
-            byte: 0,
-            interrupt: self.interrupt,
-        }
-    }
-}
 
 impl Chip {
     pub(crate) fn reset(self) -> Chip

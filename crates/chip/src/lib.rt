@@ -1,8 +1,5 @@
 // The chip of document 01: one value, which each operation takes and hands back.
-pub mod addresses;
-pub mod advance;
 pub mod commands;
-pub mod fifo;
 pub mod read;
 pub mod run;
 pub mod state;

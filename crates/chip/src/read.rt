@@ -1,11 +1,7 @@
 // A byte read: the byte that the bus gets, and the acknowledge.
 ghost use mathlib.Core.Path.{_≡_};
-ghost use mathlib.Core.Bool.{cond};
-ghost use Prim.Native.Nat.{_≤_};
-ghost use Rattle.chip.specs.Read.{statusOf, busByte, acknowledgedPort, readFault, acknowledgeOf, readOf};
+ghost use Rattle.chip.specs.Read.{readFault, acknowledgeOf, readOf};
 use crate::state::Chip;
-use crate::state::Control;
-use crate::state::Port;
 use base::refusal::STATE;
 use base::refusal::TAKEN;
 
@@ -18,52 +14,6 @@ pub struct ByteRead {
     pub chip: Chip,
     pub refusal: u8,
     pub byte: u8,
-}
-
-// One flag of the status.
-fn flag(on: bool, weight: u8) -> u8
-    ensures { λ r. ⌜ r ≡ cond on weight 0 ⌝ }
-    ensures { λ r. ⌜ r ≤ weight ⌝ }
-{
-    if on { weight } else { 0 }
-}
-
-impl Control {
-    pub(crate) fn status(self) -> u8
-        ensures { λ r. ⌜ r ≡ statusOf self ⌝ }
-    {
-        let mode = self.mode;
-        let level = self.fifo.level;
-        flag(mode.speaks(), 0x80) + flag(level <= Chip::LOW_LEVEL, 0x40) + flag(level == 0, 0x20)
-    }
-
-    // The byte that the bus gets.
-    pub(crate) fn bus_byte(self) -> u8
-        ensures { λ r. ⌜ r ≡ busByte self ⌝ }
-    {
-        let port = self.port;
-        if port.pending {
-            port.byte
-        } else {
-            self.status()
-        }
-    }
-}
-
-impl Port {
-    fn acknowledged(self) -> Port
-        ensures { λ r. ⌜ r ≡ acknowledgedPort self ⌝ }
-    {
-        if self.pending {
-            self.no_data()
-        } else {
-            Port {
-                pending: self.pending,
-                byte: self.byte,
-                interrupt: false,
-            }
-        }
-    }
 }
 
 impl Chip {

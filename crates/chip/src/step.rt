@@ -9,18 +9,19 @@ ghost use Rattle.rom.specs.Frames.{pitchBits, Proper};
 ghost use Rattle.rom.specs.declared.frames.Frame.{Frame};
 ghost use Rattle.chip.specs.Step.{reportNumber, reportFrame, begins, reportOf, played, silent, sounded, steps, stepFault, stepOf};
 ghost use Rattle.chip.specs.Types.{Begin};
-use crate::advance::Action;
 use crate::state::Chip;
-use crate::state::Clock;
 use base::refusal::IMAGE;
 use base::refusal::STATE;
 use base::refusal::TAKEN;
+use control::state::Clock;
 use rom::bits::image_valid;
 use rom::frames::Found;
 use rom::frames::Frame;
 use rom::frames::is_stop;
 use sound::sample::Sampled;
 use sound::state::Sound;
+use speech::advance::Action;
+use speech::advance::advance;
 use voice::checks::voice_check;
 
 // What a step reports.
@@ -95,37 +96,36 @@ fn play(sound: Sound, voice: &[u8], clock: Clock) -> Sampled
     }
 }
 
-impl Action {
-    fn report(self) -> Report
-        ensures { λ r. ⌜ r ≡ reportOf self ⌝ }
-    {
-        match self {
-            Action::Silent => Report::Nothing,
-            Action::Rest => Report::Nothing,
-            Action::RunOut => Report::RanOut,
-            Action::Begin(frame) => begins(frame),
-            Action::Continue => Report::Nothing,
-        }
+// What a step reports, by what the control asked of the sound.
+fn reported(action: Action) -> Report
+    ensures { λ r. ⌜ r ≡ reportOf action ⌝ }
+{
+    match action {
+        Action::Silent => Report::Nothing,
+        Action::Rest => Report::Nothing,
+        Action::RunOut => Report::RanOut,
+        Action::Begin(frame) => begins(frame),
+        Action::Continue => Report::Nothing,
     }
+}
 
-    // What the sound does for it, at the clock before the step.
-    fn apply(self, sound: Sound, voice: &[u8], clock: Clock) -> Sampled
-        requires { ⌜ (voiceFault pitches version (now voice) ≡ 0)
-            × ((f : Frame) → self ≡ Begin f → Proper pitchBits f)
-            × (soundValid sound ≡ true)
-            × (clock .interval .0 ≤ 7) ⌝ }
-        ensures { λ r. ⌜ r ≡ sounded (now (voice .entry)) clock self sound ⌝ }
-    {
-        match self {
-            Action::Silent => silent(sound),
-            Action::Rest => silent(Sound::at_rest()),
-            Action::RunOut => silent(Sound::at_rest()),
-            Action::Begin(frame) => {
-                let aimed = sound.set_targets(voice, frame);
-                play(aimed, voice, clock)
-            }
-            Action::Continue => play(sound, voice, clock),
+// What the sound does for it, at the clock before the step.
+fn apply(action: Action, sound: Sound, voice: &[u8], clock: Clock) -> Sampled
+    requires { ⌜ (voiceFault pitches version (now voice) ≡ 0)
+        × ((f : Frame) → action ≡ Begin f → Proper pitchBits f)
+        × (soundValid sound ≡ true)
+        × (clock .interval .0 ≤ 7) ⌝ }
+    ensures { λ r. ⌜ r ≡ sounded (now (voice .entry)) clock action sound ⌝ }
+{
+    match action {
+        Action::Silent => silent(sound),
+        Action::Rest => silent(Sound::at_rest()),
+        Action::RunOut => silent(Sound::at_rest()),
+        Action::Begin(frame) => {
+            let aimed = sound.set_targets(voice, frame);
+            play(aimed, voice, clock)
         }
+        Action::Continue => play(sound, voice, clock),
     }
 }
 
@@ -156,13 +156,13 @@ impl Chip {
         let old = self.control;
         let clock = old.clock;
         let before = self.sound;
-        let moved = old.advance(image);
+        let moved = advance(old, image);
         let control = moved.control;
         let action = moved.action;
-        let sampled = action.apply(before, voice, clock);
+        let sampled = apply(action, before, voice, clock);
         let sound = sampled.sound;
         let value = sampled.value;
-        let report = action.report();
+        let report = reported(action);
         Stepped {
             chip: Chip { control, sound },
             refusal: TAKEN,

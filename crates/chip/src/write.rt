@@ -1,69 +1,22 @@
 // A byte written.
 ghost use mathlib.Core.Path.{_≡_};
 ghost use Prim.Native.Nat.{_≤_, _<_};
-ghost use lib.ListN.{length};
-ghost use Rattle.rom.specs.Bits.{imageLimit};
-ghost use Rattle.chip.specs.State.{positionLimit, fifoSize};
-ghost use Rattle.chip.specs.Write.{waits, beyondAt, beyond, writeFault, buffered, writtenIn, writeOf};
-use crate::commands::Command;
-use crate::commands::command_of;
+ghost use Rattle.control.specs.State.{positionLimit, fifoSize};
+ghost use Rattle.chip.specs.Write.{writeFault, buffered, writtenIn, writeOf};
 use crate::state::Chip;
-use crate::state::Mode;
 use base::refusal::BEYOND;
 use base::refusal::IMAGE;
 use base::refusal::STATE;
 use base::refusal::TAKEN;
 use base::refusal::WAIT;
+use control::commands::command_of;
+use control::state::Control;
+use control::state::Mode;
 use rom::bits::image_valid;
 
 pub struct Written {
     pub chip: Chip,
     pub refusal: u8,
-}
-
-impl Mode {
-    // Whether a byte of a command waits, with so many bytes held.
-    fn waits(self, level: u8, command: Command) -> bool
-        ensures { λ r. ⌜ r ≡ waits self level command ⌝ }
-    {
-        match self {
-            Mode::Idle => false,
-            Mode::Rom => !command.is_reset(),
-            Mode::Waiting => level == Chip::FIFO_SIZE,
-            Mode::External => level == Chip::FIFO_SIZE,
-        }
-    }
-
-    // Whether a byte of a command needs bits beyond the image.
-    fn beyond(self, image: &[u8], position: usize, command: Command) -> bool
-        requires { ⌜ (position ≤ positionLimit) × (length (now image) ≤ imageLimit) ⌝ }
-        ensures { λ r. ⌜ r ≡ beyond self (now (image .entry)) position command ⌝ }
-    {
-        match self {
-            Mode::Idle => command.beyond(image, position),
-            Mode::Rom => false,
-            Mode::Waiting => false,
-            Mode::External => false,
-        }
-    }
-}
-
-impl Command {
-    fn beyond(self, image: &[u8], position: usize) -> bool
-        requires { ⌜ (position ≤ positionLimit) × (length (now image) ≤ imageLimit) ⌝ }
-        ensures { λ r. ⌜ r ≡ beyondAt (now (image .entry)) position self ⌝ }
-    {
-        let n = image.len();
-        match self {
-            Command::Nothing => false,
-            Command::ReadByte => !(position + 8 <= 8 * n),
-            Command::ReadAndBranch => !(position / 8 + 2 <= n),
-            Command::LoadAddress => false,
-            Command::Speak => !(position + 1 <= 8 * n),
-            Command::SpeakExternal => false,
-            Command::Reset => false,
-        }
-    }
 }
 
 impl Chip {
@@ -116,7 +69,7 @@ impl Chip {
             Mode::Waiting => {
                 let level = control.fifo.level;
                 let buffered = self.buffer(byte);
-                if level + 1 == Chip::START_LEVEL {
+                if level + 1 == Control::START_LEVEL {
                     buffered.talk(Mode::External)
                 } else {
                     buffered

@@ -10,16 +10,17 @@ use lib.Dec.{eqb}
 use Rattle.base.specs.Refusals.{WAIT, BEYOND, firstFault}
 use Rattle.base.specs.Steps.{stateAfter}
 use Rattle.rom.specs.Bits.{imageValid}
+use Rattle.control.specs.Commands.{commandOf, waits, beyond}
+use Rattle.control.specs.Status.{statusOf, acknowledgedPort}
+use Rattle.control.specs.declared.state.Mode.the-variants.{Idle, Rom}
+use Rattle.control.specs.declared.state.Port.{Port}
+use Rattle.control.specs.declared.state.Control.{Control}
 use Rattle.chip.specs.State.{withPort}
 use Rattle.chip.specs.Validity.{valid}
-use Rattle.chip.specs.Commands.{commandOf}
-use Rattle.chip.specs.Write.{waits, beyond, writeFault}
-use Rattle.chip.specs.Read.{statusOf, acknowledgedPort, acknowledgeOf, readOf}
+use Rattle.chip.specs.Write.{writeFault}
+use Rattle.chip.specs.Read.{acknowledgeOf, readOf}
 use Rattle.chip.specs.Step.{steps, stepFault, notStepped, stepOf}
 use Rattle.chip.specs.Run.{sampleStep, notRun, runOf}
-use Rattle.chip.specs.declared.state.Mode.the-variants.{Idle, Rom}
-use Rattle.chip.specs.declared.state.Port.{Port}
-use Rattle.chip.specs.declared.state.Control.{Control}
 use Rattle.chip.specs.declared.state.Chip.{Chip}
 use Rattle.claims.specs.Demand3.{faultOf}
 

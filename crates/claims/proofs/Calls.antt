@@ -13,15 +13,15 @@ use Rattle.base.specs.Steps.{stateAfter}
 use Rattle.base.proofs.Booleans.{cond-true, cond-false}
 use Rattle.rom.specs.Bits.{imageValid}
 use Rattle.rom.specs.declared.frames.Frame.{Frame}
-use Rattle.chip.specs.State.{started}
+use Rattle.control.specs.State.{started}
+use Rattle.control.specs.declared.commands.Command.the-variants.{Speak}
+use Rattle.speech.specs.Advance.{advanced}
 use Rattle.chip.specs.Validity.{valid}
 use Rattle.chip.specs.Commands.{obeyed}
 use Rattle.chip.specs.Write.{writeFault, writeOf}
-use Rattle.chip.specs.Advance.{advanced}
 use Rattle.chip.specs.Step.{steps, notStepped, stepOf}
 use Rattle.chip.specs.Run.{sampleStep, runOf}
 use Rattle.chip.specs.declared.state.Chip.{Chip}
-use Rattle.chip.specs.declared.commands.Command.the-variants.{Speak}
 use Rattle.chip.specs.declared.write.Written.{Written}
 use Rattle.chip.specs.declared.run.Ran.{Ran}
 use Rattle.chip.specs.declared.step.Stepped.{Stepped}

@@ -5,12 +5,13 @@ use mathlib.Core.Bool.{true, false}
 use mathlib.Core.List.{List}
 use Prim.Native.Nat.{ℕ}
 use Rattle.rom.specs.Bits.{imageValid}
+use Rattle.control.specs.Commands.{commandOf, beyondAt}
+use Rattle.control.specs.declared.state.Mode.the-variants.{Idle}
+use Rattle.control.specs.declared.commands.Command.{Command}
 use Rattle.chip.specs.Validity.{valid}
-use Rattle.chip.specs.Commands.{commandOf, obeyed}
-use Rattle.chip.specs.Write.{beyondAt, writeFault, writeOf}
-use Rattle.chip.specs.declared.state.Mode.the-variants.{Idle}
+use Rattle.chip.specs.Commands.{obeyed}
+use Rattle.chip.specs.Write.{writeFault, writeOf}
 use Rattle.chip.specs.declared.state.Chip.{Chip}
-use Rattle.chip.specs.declared.commands.Command.{Command}
 use Rattle.chip.proofs.Writing.{in-mode, write-taken}
 
 -- a command that is not beyond the image is taken and obeyed

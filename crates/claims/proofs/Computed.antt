@@ -7,7 +7,8 @@ use Rattle.rom.specs.Items.{itemsFrom}
 use Rattle.rom.specs.Phrases.{walkOf}
 use Rattle.sound.specs.State.{soundValid, atRest}
 use Rattle.sound.specs.Noise.{noiseBit, nextNoise}
-use Rattle.chip.specs.Validity.{controlValid, valid}
+use Rattle.control.specs.Validity.{controlValid}
+use Rattle.chip.specs.Validity.{valid}
 use Rattle.chip.specs.Write.{writeFault, writeOf}
 use Rattle.claims.specs.Cases.{cases, CasesHold}
 

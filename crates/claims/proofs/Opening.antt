@@ -11,13 +11,15 @@ use lib.Arith.{mod-mul}
 use Rattle.rom.specs.Bits.{imageValid}
 use Rattle.rom.proofs.Checks.{valid-length}
 use Rattle.sound.specs.State.{soundValid, atRest}
-use Rattle.chip.specs.State.{positionLimit, addressLimit, powerUp, withPlace}
-use Rattle.chip.specs.Validity.{controlValid, valid}
-use Rattle.chip.specs.Addresses.{withNibble}
-use Rattle.chip.specs.Commands.{commandOf}
+use Rattle.control.specs.State.{positionLimit, addressLimit}
+use Rattle.control.specs.Validity.{controlValid}
+use Rattle.control.specs.Addresses.{withNibble}
+use Rattle.control.specs.Commands.{commandOf}
+use Rattle.control.specs.declared.commands.Command.the-variants.{LoadAddress}
+use Rattle.chip.specs.State.{powerUp, withPlace}
+use Rattle.chip.specs.Validity.{valid}
 use Rattle.chip.specs.Write.{writeOf}
 use Rattle.chip.specs.declared.state.Chip.{Chip}
-use Rattle.chip.specs.declared.commands.Command.the-variants.{LoadAddress}
 use Rattle.chip.specs.declared.write.Written.{Written}
 use Rattle.claims.specs.Writes.{afterBytes, refusalsOf}
 use Rattle.claims.specs.Demand3.{loadBytes, Ready, Opening}

@@ -12,10 +12,10 @@ use Rattle.rom.specs.Frames.{pitchBits, bitsOf, isStop}
 use Rattle.rom.specs.Items.{bitsAll}
 use Rattle.rom.specs.Phrases.{frameCode}
 use Rattle.rom.specs.declared.frames.Frame.{Frame}
-use Rattle.chip.specs.declared.state.Mode.{Mode}
-use Rattle.chip.specs.declared.state.Mode.the-variants.{Idle, Rom}
-use Rattle.chip.specs.declared.state.Clock.{Clock}
-use Rattle.chip.specs.declared.state.Control.{Control}
+use Rattle.control.specs.declared.state.Mode.{Mode}
+use Rattle.control.specs.declared.state.Mode.the-variants.{Idle, Rom}
+use Rattle.control.specs.declared.state.Clock.{Clock}
+use Rattle.control.specs.declared.state.Control.{Control}
 use Rattle.claims.specs.Schedule.{samplesOfFrame, dueFrom, endFrom, talksFrom, positionFrom}
 use Rattle.claims.proofs.Chain.{width}
 use Rattle.claims.proofs.Boundary.{Tick}

@@ -12,11 +12,11 @@ use Rattle.rom.specs.Frames.{pitchBits, isStop}
 use Rattle.rom.specs.Reader.{frameAt}
 use Rattle.rom.specs.declared.frames.Frame.{Frame}
 use Rattle.rom.specs.declared.reader.Taken.the-variants.{Whole, Cut}
-use Rattle.chip.specs.Advance.{advanced}
+use Rattle.control.specs.declared.state.Mode.the-variants.{Idle, Rom}
+use Rattle.control.specs.declared.state.Control.{Control}
+use Rattle.speech.specs.Advance.{advanced}
+use Rattle.speech.specs.declared.advance.Moved.{Moved}
 use Rattle.chip.specs.Step.{reportOf}
-use Rattle.chip.specs.declared.state.Mode.the-variants.{Idle, Rom}
-use Rattle.chip.specs.declared.state.Control.{Control}
-use Rattle.chip.specs.declared.advance.Moved.{Moved}
 use Rattle.chip.specs.declared.step.Report.the-variants.{Nothing}
 use Rattle.claims.specs.Schedule.{samplesOfFrame, reportFrom}
 use Rattle.claims.proofs.Chain.{width, Chain, stop, more, cut}

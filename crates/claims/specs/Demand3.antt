@@ -14,17 +14,17 @@ use Rattle.rom.specs.Phrases.{PhraseAt, FramesThere, accepted, walkOf}
 use Rattle.rom.specs.declared.frames.Frame.{Frame}
 use Rattle.voice.specs.Layout.{pitches}
 use Rattle.voice.specs.Check.{voiceFault, version}
+use Rattle.control.specs.Commands.{commandOf, waits, beyond}
+use Rattle.control.specs.declared.state.Mode.{Mode}
+use Rattle.control.specs.declared.state.Mode.the-variants.{Idle, Rom}
+use Rattle.control.specs.declared.commands.Command.the-variants.{LoadAddress, Speak}
 use Rattle.chip.specs.State.{powerUp}
 use Rattle.chip.specs.Validity.{valid}
-use Rattle.chip.specs.Commands.{commandOf}
-use Rattle.chip.specs.Write.{waits, beyond, writeOf}
+use Rattle.chip.specs.Write.{writeOf}
 use Rattle.chip.specs.Read.{readOf}
 use Rattle.chip.specs.Step.{stepOf}
 use Rattle.chip.specs.Run.{runOf}
-use Rattle.chip.specs.declared.state.Mode.{Mode}
-use Rattle.chip.specs.declared.state.Mode.the-variants.{Idle, Rom}
 use Rattle.chip.specs.declared.state.Chip.{Chip}
-use Rattle.chip.specs.declared.commands.Command.the-variants.{LoadAddress, Speak}
 use Rattle.chip.specs.declared.step.Report.{Report}
 use Rattle.chip.specs.declared.step.Report.the-variants.{Nothing}
 use Rattle.claims.specs.Writes.{afterBytes, refusalsOf}

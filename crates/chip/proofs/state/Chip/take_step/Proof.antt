@@ -2,8 +2,8 @@
 use borrow.Author.Needs.{needs}
 use denote.Ref.{now}
 use Rattle.rom.proofs.Checks.{valid-length}
-use Rattle.chip.proofs.Ranges.{chip-ranges, control-in-ranges}
-use Rattle.chip.proofs.Moving.{valid-ranges}
+use Rattle.control.proofs.Ranges.{control-in-ranges, valid-ranges}
+use Rattle.chip.proofs.Ranges.{chip-ranges}
 use Rattle.chip.proofs.Stepping.{Passed, passed, steps-is}
 use Rattle.chip.proofs.StepsValid.{begins-proper}
 use Rattle.chip.proofs.state.Chip.take_step.Statement.{statement}
@@ -32,4 +32,4 @@ take-step-spec =
     advance-requires
     apply-requires
     (λ c κs. search needs)
-    (λ c. let a = c .before .before .before .before .before .before .before .before .before .before .before .args in steps-is (now (a .image)) (now (a .voice)) (a .self) (c .before .before .before .before .before .advance .ensures) (c .before .before .before .apply .ensures) (c .report .ensures) (search needs)))
+    (λ c. let a = c .before .before .before .before .before .before .before .before .before .before .before .args in steps-is (now (a .image)) (now (a .voice)) (a .self) (c .before .before .before .before .before .advance .ensures) (c .before .before .before .apply .ensures) (c .reported .ensures) (search needs)))

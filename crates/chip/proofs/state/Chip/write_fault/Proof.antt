@@ -1,13 +1,13 @@
 -- `chip::state::Chip::write_fault` meets its contract. Assumes nothing.
 use borrow.Author.Needs.{needs}
 use borrow.Author.Tests.{not-false}
-use Rattle.chip.proofs.Ranges.{valid-place}
 use Rattle.rom.proofs.Checks.{valid-length}
+use Rattle.chip.proofs.Ranges.{valid-place}
 use Rattle.chip.specs.Write.{writeFault}
-use mathlib.Core.Path.{sym, _∙_}
-use denote.Ref.{now}
 use Rattle.chip.proofs.state.Chip.write_fault.Statement.{statement}
 use Rattle.chip.proofs.state.Chip.write_fault.Tie as tie
+use mathlib.Core.Path.{sym, _∙_}
+use denote.Ref.{now}
 
 returns : tie.Need-returns
 unfolding writeFault

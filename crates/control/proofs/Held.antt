@@ -1,0 +1,64 @@
+-- What the FIFO holds, as bits.
+-- Assumes nothing.
+use mathlib.Core.Path.{_≡_, refl, sym, ap, _∙_}
+use mathlib.Core.List.{List, [], _∷_, _++_, append-assoc, append-nil}
+use Prim.Native.Nat.{ℕ, _+_, _*_, _-_, _/_, _%_, _<_, _≤_}
+use native.Mathlib.Numerals.{add-one}
+use native.Mathlib.Omega.{arith}
+use lib.ListN.{length, take, drop, replicate, length-append, length-take, length-drop}
+use lib.Seq.{take-suc-set, take-add, take-append-le, drop-append-le, drop-append-add, drop-drop, length-take-le}
+use Rattle.rom.specs.Bits.{digits}
+use Rattle.rom.proofs.Encoding.{length-digits}
+use Rattle.control.specs.Types.{Mode, Idle, Rom, Waiting, External, Fifo}
+use Rattle.control.specs.Buffer.{bitsOfBytes}
+use Rattle.control.specs.Laws.{HeldLength, HeldAppended, HeldUsed}
+use Rattle.control.proofs.Ranges.{FifoRanges, fifo-ranges}
+
+length-bits : (bs : List ℕ) → length (bitsOfBytes bs) ≡ 8 * length bs
+length-bits [] = refl
+length-bits (b ∷ bs) = omega (arith, length-append (digits 8 b) (bitsOfBytes bs), length-digits 8 b, length-bits bs)
+
+bits-append : (xs ys : List ℕ) → bitsOfBytes (xs ++ ys) ≡ bitsOfBytes xs ++ bitsOfBytes ys
+bits-append [] ys = refl
+bits-append (x ∷ xs) ys = rw (bits-append xs ys) (rw append-assoc)
+
+-- the level and the used bits of a valid FIFO fit its bytes
+fits : (m : Mode) (f : Fifo) → FifoRanges m f → (f .level ≤ length (f .bytes)) × (f .used ≤ 8 * f .level)
+fits Idle f r = omega (arith, r .most, r .used, r .size)
+fits Rom f r = omega (arith, r .most, r .used, r .size)
+fits Waiting f r = omega (arith, r .most, r .used, r .size)
+fits External f r = omega (arith, r .least, r .most, r .used, r .size)
+
+length-level : (f : Fifo) → f .level ≤ length (f .bytes) → length (bitsOfBytes (take (f .level) (f .bytes))) ≡ 8 * f .level
+length-level f h = simp (length-bits, length-take) (omega arith)
+
+pub held-length : HeldLength
+held-length m f h =
+    let r = fits m f (fifo-ranges m f h) in
+    simp length-drop (omega (arith, length-level f (r .0)))
+
+pub held-appended : HeldAppended
+held-appended m f b h l =
+    let q = fifo-ranges m f h in
+    let r = fits m f q in
+    let room : f .level < length (f .bytes) = omega (arith, q .size) in
+    let used : f .used ≤ length (bitsOfBytes (take (f .level) (f .bytes))) = omega (arith, r .1, length-level f (r .0)) in
+    rw (add-one, take-suc-set (f .bytes) (f .level) b room, bits-append) (rw (drop-append-le, append-nil))
+
+pub held-used : HeldUsed
+held-used m f n h l =
+    let r = fits m f (fifo-ranges m f h) in
+    let b = (f .used + n) / 8 in
+    let e = (f .used + n) % 8 in
+    let gone = bitsOfBytes (take b (f .bytes)) in
+    let rest = bitsOfBytes (take (f .level - b) (drop b (f .bytes))) in
+    let all : b + (f .level - b) ≡ f .level = omega (arith, held-length m f h, r) in
+    let size : length gone ≡ 8 * b = length-bits (take b (f .bytes)) ∙ ap (λ (j : ℕ). 8 * j) (length-take-le b (f .bytes) (omega (arith, held-length m f h, r))) in
+    let split : bitsOfBytes (take (f .level) (f .bytes)) ≡ gone ++ rest =
+    ap (λ (j : ℕ). bitsOfBytes (take j (f .bytes))) (sym all) ∙ ap bitsOfBytes (take-add b (f .level - b) (f .bytes)) ∙ bits-append (take b (f .bytes)) _ in
+    let bits : length gone + e ≡ f .used + n = omega (arith, size) in
+    ap (λ (l : List ℕ). drop e (bitsOfBytes l)) (take-append-le (f .level - b) (drop b (f .bytes)) (replicate b 0) (simp length-drop (omega (arith, r))))
+    ∙ sym (drop-append-add gone rest e)
+    ∙ ap (λ (j : ℕ). drop j (gone ++ rest)) bits
+    ∙ ap (drop (f .used + n)) (sym split)
+    ∙ sym (drop-drop n (f .used) (bitsOfBytes (take (f .level) (f .bytes))))

@@ -1,0 +1,4 @@
+pub mod Ranges
+pub mod Nibbles
+pub mod Held
+pub mod Shifting

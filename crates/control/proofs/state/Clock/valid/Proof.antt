@@ -1,0 +1,11 @@
+-- `control::state::Clock::valid` meets its contract. Assumes nothing.
+use borrow.Author.Needs.{needs}
+use Rattle.control.proofs.state.Clock.valid.Statement.{statement}
+use Rattle.control.proofs.state.Clock.valid.Tie as tie
+
+pub valid-spec : {M : Type 1} → statement M
+valid-spec =
+    tie.close
+    (tie.spec
+    (λ c κs. search needs)
+    (λ c. cc))

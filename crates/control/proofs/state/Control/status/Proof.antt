@@ -1,0 +1,16 @@
+-- `control::state::Control::status` meets its contract. Assumes nothing.
+use borrow.Author.Needs.{needs}
+use Rattle.control.proofs.state.Control.status.Statement.{statement}
+use Rattle.control.proofs.state.Control.status.Tie as tie
+
+pub status-spec : {M : Type 1} → statement M
+status-spec =
+    tie.close
+    (tie.spec
+    (λ c κs. search needs)
+    (λ c κs. search needs)
+    (λ c κs. search needs)
+    (λ c. search needs)
+    (λ c κs. search needs)
+    (λ c. search needs)
+    (λ c. cc))

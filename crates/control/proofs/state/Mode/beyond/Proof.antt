@@ -1,0 +1,18 @@
+-- `control::state::Mode::beyond` meets its contract. Assumes nothing.
+use borrow.Author.Needs.{needs}
+use Rattle.control.proofs.state.Mode.beyond.Statement.{statement}
+use Rattle.control.proofs.state.Mode.beyond.Tie as tie
+
+pub beyond-spec : {M : Type 1} → statement M
+beyond-spec =
+    tie.close
+    (tie.spec
+    (λ c. search needs)
+    (λ c κs. search needs)
+    (λ c. search needs)
+    (λ c. search needs)
+    (λ c. search needs)
+    (λ c. cc)
+    (λ c. search needs)
+    (λ c. search needs)
+    (λ c. search needs))

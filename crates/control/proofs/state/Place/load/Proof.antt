@@ -1,0 +1,13 @@
+-- `control::state::Place::load` meets its contract. Assumes nothing.
+use borrow.Author.Needs.{needs}
+use Rattle.control.proofs.state.Place.load.Statement.{statement}
+use Rattle.control.proofs.state.Place.load.Tie as tie
+
+pub load-spec : {M : Type 1} → statement M
+load-spec =
+    tie.close
+    (tie.spec
+    (λ c κs. search needs)
+    (λ c. search needs)
+    (λ c. search needs)
+    (λ c. cc))

@@ -1,0 +1,11 @@
+-- `control::state::Port::valid` meets its contract. Assumes nothing.
+use borrow.Author.Needs.{needs}
+use Rattle.control.proofs.state.Port.valid.Statement.{statement}
+use Rattle.control.proofs.state.Port.valid.Tie as tie
+
+pub valid-spec : {M : Type 1} → statement M
+valid-spec =
+    tie.close
+    (tie.spec
+    (λ c κs. search needs)
+    (λ c. cc))

@@ -1,0 +1,24 @@
+-- The FIFO (01, "Commands, FIFO, status").
+use mathlib.Core.List.{List, [], _∷_, _++_}
+use Prim.Native.Nat.{ℕ, _+_, _-_, _/_, _%_}
+use lib.ListN.{set, take, drop, replicate}
+use Rattle.rom.specs.Bits.{digits}
+use Rattle.control.specs.Types.{Fifo}
+
+-- the FIFO with a byte more
+abbrev pub appended : Fifo → ℕ → Fifo
+appended f b = record { bytes = set (f .bytes) (f .level) b; level = f .level + 1; used = f .used }
+
+-- the FIFO with u bits gone of the oldest bytes: a byte counts as held until its last bit is out
+abbrev pub usedUp : Fifo → ℕ → Fifo
+usedUp f u =
+    record { bytes = drop (u / 8) (f .bytes) ++ replicate (u / 8) 0; level = f .level - u / 8; used = u % 8 }
+
+-- the bits of bytes, most significant first
+abbrev pub bitsOfBytes : List ℕ → List ℕ
+bitsOfBytes [] = []
+bitsOfBytes (b ∷ bs) = digits 8 b ++ bitsOfBytes bs
+
+-- the bits that the FIFO holds, in the order in which they leave it
+abbrev pub heldBits : Fifo → List ℕ
+heldBits f = drop (f .used) (bitsOfBytes (take (f .level) (f .bytes)))

@@ -1,0 +1,31 @@
+-- What a bus read finds, and what it does to the port (01, "Commands, FIFO, status").
+use mathlib.Core.Bool.{Bool, false, cond}
+use Prim.Native.Nat.{ℕ, _+_}
+use lib.Dec.{eqb, leb}
+use Rattle.control.specs.Types.{Fifo, Port, Control}
+use Rattle.control.specs.State.{lowLevel}
+use Rattle.control.specs.Validity.{speaks}
+
+-- BL: 8 bytes or fewer held
+abbrev pub bufferLow : Fifo → Bool
+bufferLow f = leb (f .level) lowLevel
+
+-- BE: none held
+abbrev pub bufferEmpty : Fifo → Bool
+bufferEmpty f = eqb (f .level) 0
+
+-- the status: TS 80, in a speaking mode; BL 40; BE 20; other bits zero
+abbrev pub statusOf : Control → ℕ
+statusOf k = cond (speaks (k .mode)) 128 0 + cond (bufferLow (k .fifo)) 64 0 + cond (bufferEmpty (k .fifo)) 32 0
+
+-- the byte that the bus gets: the data byte if one is pending, else the status
+abbrev pub busByte : Control → ℕ
+busByte k = cond (k .port .pending) (k .port .byte) (statusOf k)
+
+-- a data byte is pending only if the last taken write was Read Byte: every other taken command drops it
+abbrev pub noData : Port → Port
+noData p = record { pending = false; byte = 0; interrupt = p .interrupt }
+
+-- a data read takes the data byte, a status read clears the interrupt
+abbrev pub acknowledgedPort : Port → Port
+acknowledgedPort p = cond (p .pending) (noData p) (record { pending = p .pending; byte = p .byte; interrupt = false })

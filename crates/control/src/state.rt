@@ -1,0 +1,138 @@
+// The control's value: what the host sees and steers. Its device numbers, its parts and its counters.
+ghost use mathlib.Core.Path.{_≡_};
+ghost use Prim.Native.Nat.{_≤_};
+ghost use Rattle.control.specs.State.{emptyFifo, stopped, started};
+ghost use Rattle.control.specs.Counters.{counted, intervalBegins, frameBegins};
+use base::units::Intervals;
+use base::units::Samples;
+
+pub enum Mode {
+    Idle,
+    // Speaking from ROM.
+    Rom,
+    // External speech: the FIFO fills, and is not spoken yet.
+    Waiting,
+    // External speech: the FIFO is spoken.
+    External,
+}
+
+// The place in the ROM: the position in bits, and the nibble of the address that the next load sets.
+pub struct Place {
+    pub position: usize,
+    pub nibble: u8,
+}
+
+// The bytes held, the oldest first, how many they are, and how many bits of the oldest are used.
+pub struct Fifo {
+    pub bytes: [u8; 16],
+    pub level: u8,
+    pub used: u8,
+}
+
+// What a read finds besides the status: a data byte that is pending, and the interrupt line.
+pub struct Port {
+    pub pending: bool,
+    pub byte: u8,
+    pub interrupt: bool,
+}
+
+// Whether the chip sounds, the sample of the interval and the interval of the frame.
+pub struct Clock {
+    pub sounding: bool,
+    pub sample: Samples,
+    pub interval: Intervals,
+}
+
+// All that the host sees and steers. Nothing in it depends on a voice file or on the sound.
+pub struct Control {
+    pub mode: Mode,
+    pub place: Place,
+    pub fifo: Fifo,
+    pub port: Port,
+    pub clock: Clock,
+}
+
+impl Control {
+    pub const FIFO_SIZE: u8 = 16;
+
+    // BL is set with so many bytes held, or fewer.
+    pub const LOW_LEVEL: u8 = 8;
+
+    // External speaking starts with so many.
+    pub const START_LEVEL: u8 = 9;
+
+    pub const IMAGE_LIMIT: usize = rom::bits::IMAGE_LIMIT;
+
+    pub const POSITION_LIMIT: usize = 2097152;
+
+    // The bytes of one ROM chip, and those of all that an address reaches.
+    pub const ROM_SIZE: usize = 16384;
+
+    pub const ADDRESS_LIMIT: usize = 262144;
+
+    // The nibbles of an address.
+    pub const NIBBLES: u8 = 5;
+
+    pub const SAMPLES_PER_INTERVAL: u64 = Intervals::SAMPLES;
+
+    pub const INTERVALS_PER_FRAME: u64 = base::units::Frames::INTERVALS;
+}
+
+impl Fifo {
+    pub fn empty() -> Fifo
+        ensures { λ r. ⌜ r ≡ emptyFifo ⌝ }
+    {
+        Fifo {
+            bytes: [0; 16],
+            level: 0,
+            used: 0,
+        }
+    }
+}
+
+impl Clock {
+    pub fn stopped() -> Clock
+        ensures { λ r. ⌜ r ≡ stopped ⌝ }
+    {
+        Clock {
+            sounding: false,
+            sample: Samples(0),
+            interval: Intervals(0),
+        }
+    }
+
+    pub fn started() -> Clock
+        ensures { λ r. ⌜ r ≡ started ⌝ }
+    {
+        Clock {
+            sounding: true,
+            sample: Samples(0),
+            interval: Intervals(0),
+        }
+    }
+
+    pub fn count(self) -> Clock
+        requires { ⌜ (self .sample .0 ≤ 24) × (self .interval .0 ≤ 7) ⌝ }
+        ensures { λ r. ⌜ r ≡ counted self ⌝ }
+    {
+        let next = self.sample.0 + 1;
+        let interval = self.interval.0 + next / Control::SAMPLES_PER_INTERVAL;
+        Clock {
+            sounding: self.sounding,
+            sample: Samples(next % Control::SAMPLES_PER_INTERVAL),
+            interval: Intervals(interval % Control::INTERVALS_PER_FRAME),
+        }
+    }
+
+    pub fn interval_begins(self) -> bool
+        ensures { λ r. ⌜ r ≡ intervalBegins self ⌝ }
+    {
+        self.sample.0 == 0
+    }
+
+    pub fn frame_begins(self) -> bool
+        ensures { λ r. ⌜ r ≡ frameBegins self ⌝ }
+    {
+        (self.sample.0 == 0) & (self.interval.0 == 0)
+    }
+}

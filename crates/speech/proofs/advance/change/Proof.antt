@@ -1,0 +1,11 @@
+-- `speech::advance::change` meets its contract. Assumes nothing.
+use borrow.Author.Needs.{needs}
+use Rattle.speech.proofs.advance.change.Statement.{statement}
+use Rattle.speech.proofs.advance.change.Tie as tie
+
+pub change-spec : {M : Type 1} → statement M
+change-spec =
+    tie.close
+    (tie.spec
+    (λ c κs. search needs)
+    (λ c. rw (c .before .raises .ensures)))

@@ -1,0 +1,2 @@
+// What a sample step does to the control.
+pub mod advance;
