@@ -9,4 +9,4 @@ buffer-spec =
     (tie.spec
     (λ c κs. search needs)
     (λ c κs. search needs)
-    (λ c. cc))
+    (λ c. rw (c .before .append .ensures) at (c .with-fifo .ensures)))

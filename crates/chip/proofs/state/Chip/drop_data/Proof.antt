@@ -9,4 +9,4 @@ drop-data-spec =
     (tie.spec
     (λ c κs. search needs)
     (λ c κs. search needs)
-    (λ c. cc))
+    (λ c. rw (c .before .no-data .ensures) at (c .with-port .ensures)))

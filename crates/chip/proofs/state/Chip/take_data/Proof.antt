@@ -8,4 +8,4 @@ take-data-spec =
     tie.close
     (tie.spec
     (λ c κs. search needs)
-    (λ c. cc))
+    (λ c. rw (c .field-at .ensures)))

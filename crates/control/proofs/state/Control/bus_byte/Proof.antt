@@ -9,4 +9,4 @@ bus-byte-spec =
     (tie.spec
     (λ c κs. search needs)
     (λ c. search needs)
-    (λ c. cc))
+    (λ c. rw (c .before .if1 .left) (c .status .ensures)))

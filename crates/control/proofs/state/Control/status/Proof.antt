@@ -13,4 +13,4 @@ status-spec =
     (λ c. search needs)
     (λ c κs. search needs)
     (λ c. search needs)
-    (λ c. cc))
+    (λ c. rw (c .flag3 .ensures .0, c .before .flag2 .ensures .0, c .before .before .flag .ensures .0, c .before .before .before .speaks .ensures)))

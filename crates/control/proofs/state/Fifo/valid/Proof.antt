@@ -12,4 +12,4 @@ valid-spec =
     (λ c κs. search needs)
     (λ c. search needs)
     (λ c κs. search needs)
-    (λ c. cc))
+    (λ c. rw (c .before .before .before .clear-from .ensures, c .before .before .before .before .before .before .most-used .ensures, c .before .before .before .before .before .before .before .most-level .ensures, c .before .before .before .before .before .before .before .before .least-level .ensures)))

@@ -12,7 +12,7 @@ beyond-spec =
     (λ c. search needs)
     (λ c. search needs)
     (λ c. search needs)
-    (λ c. cc)
+    (λ c. rw (c .before .enum-told .given .1) (c .beyond .ensures))
     (λ c. search needs)
     (λ c. search needs)
     (λ c. search needs))

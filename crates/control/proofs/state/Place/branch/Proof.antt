@@ -9,4 +9,4 @@ branch-spec =
     (tie.spec
     (λ c κs. search needs)
     (λ c. search needs)
-    (λ c. cc))
+    (λ c. rw (c .branch-address .ensures)))

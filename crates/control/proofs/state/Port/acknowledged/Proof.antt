@@ -8,5 +8,5 @@ acknowledged-spec =
     tie.close
     (tie.spec
     (λ c κs. search needs)
-    (λ c. cc)
-    (λ c. cc))
+    (λ c. rw (c .before .if1 .taken) (c .no-data .ensures))
+    (λ c. rw (c .if1 .left)))
