@@ -4,3 +4,4 @@ pub mod Reading
 pub mod KeptValid
 pub mod Stepping
 pub mod StepsValid
+pub mod Playing

@@ -7,7 +7,7 @@ use Rattle.base.proofs.Booleans.{both-true}
 use Rattle.sound.specs.State.{soundValid, atRest}
 use Rattle.control.specs.State.{positionLimit}
 use Rattle.control.specs.Validity.{controlValid}
-use Rattle.control.proofs.Ranges.{ControlRanges, control-ranges, control-in-ranges, place-ranges, FifoRanges, fifo-ranges}
+use Rattle.control.proofs.Ranges.{ControlRanges, control-ranges, control-in-ranges, place-ranges, clock-ranges, FifoRanges, fifo-ranges}
 use Rattle.chip.specs.Types.{Chip}
 use Rattle.chip.specs.Validity.{valid}
 
@@ -28,6 +28,9 @@ chip-ranges c h =
 
 pub valid-place : (c : Chip) → valid c ≡ true → (c .control .place .position ≤ positionLimit) × (c .control .place .nibble ≤ 4)
 valid-place c h = place-ranges _ (chip-ranges c h .control .place)
+
+pub valid-clock : (c : Chip) → valid c ≡ true → (c .control .clock .sample .0 ≤ 24) × (c .control .clock .interval .0 ≤ 7)
+valid-clock c h = clock-ranges (c .control .mode) (c .control .clock) (chip-ranges c h .control .clock)
 
 pub valid-fifo : (c : Chip) → valid c ≡ true → FifoRanges (c .control .mode) (c .control .fifo)
 valid-fifo c h = fifo-ranges _ _ (chip-ranges c h .control .fifo)

@@ -1,9 +1,14 @@
 // A run of sample steps into a lent buffer.
 ghost use mathlib.Core.Path.{_≡_};
+ghost use mathlib.Core.Bool.{true};
+ghost use Prim.Native.Nat.{_≤_, min};
 ghost use lib.ListN.{length};
 ghost use Rattle.base.specs.Steps.{stateAfter, outputs};
+ghost use Rattle.voice.specs.Layout.{pitches};
+ghost use Rattle.sound.specs.Sample.{valuesOf};
+ghost use Rattle.chip.specs.Validity.{valid};
 ghost use Rattle.chip.specs.Step.{stepFault};
-ghost use Rattle.chip.specs.Run.{sampleStep, runOf, bufferOf};
+ghost use Rattle.chip.specs.Run.{sampleStep, playedOn, runOf, bufferOf};
 use crate::state::Chip;
 use base::refusal::TAKEN;
 
@@ -12,8 +17,29 @@ pub struct Ran {
     pub refusal: u8,
 }
 
+fn smaller(a: usize, b: usize) -> usize
+    ensures { λ r. ⌜ r ≡ min a b ⌝ }
+{
+    if a < b { a } else { b }
+}
+
 impl Chip {
-    // A step for each element, once the checks have passed.
+    // Samples up to the end of an interval in which one has been made, one for each element: the sound is not interpolated
+    // between them, and the control only counts.
+    fn play_on(self, voice: &[u8], out: &mut [i16]) -> Chip
+        requires { ⌜ (valid self ≡ true) × (length (now out) ≤ 25) ⌝ }
+        ensures { λ r. ⌜ r ≡ playedOn (now (voice .entry)) (length (now (out .entry))) self ⌝ }
+        ensures { λ r. ⌜ now (out .exit) ≡ valuesOf pitches (now (voice .entry)) (length (now (out .entry))) (self .sound) ⌝ }
+    {
+        let mut control = self.control;
+        let clock = control.clock;
+        control.clock = clock.count_by(out.len() as u64);
+        let before = self.sound;
+        let sound = before.play(voice, out);
+        Chip { control, sound }
+    }
+
+    // A step for each element, once the checks have passed. What is left of an interval is played at once.
     fn fill(self, image: &[u8], voice: &[u8], out: &mut [i16]) -> Chip
         requires { ⌜ stepFault (now image) (now voice) self ≡ 0 ⌝ }
         ensures { λ r. ⌜ r ≡ stateAfter (sampleStep (now (image .entry)) (now (voice .entry))) (length (now (out .entry))) self ⌝ }
@@ -22,12 +48,21 @@ impl Chip {
         let mut chip = self;
         let mut i = 0;
         while i < out.len() {
-            let stepped = chip.take_step(image, voice);
-            let next = stepped.chip;
-            let sample = stepped.sample;
-            out[i] = sample;
-            chip = next;
-            i += 1;
+            let clock = chip.control.clock;
+            let left = clock.left_of_interval() as usize;
+            if left == 0 {
+                let stepped = chip.take_step(image, voice);
+                let next = stepped.chip;
+                let sample = stepped.sample;
+                out[i] = sample;
+                chip = next;
+                i += 1;
+            } else {
+                let end = i + smaller(left, out.len() - i);
+                let next = chip.play_on(voice, &mut out[i..end]);
+                chip = next;
+                i = end;
+            }
         }
         chip
     }

@@ -2,7 +2,7 @@
 ghost use mathlib.Core.Path.{_≡_};
 ghost use Prim.Native.Nat.{_≤_};
 ghost use Rattle.control.specs.State.{emptyFifo, stopped, started};
-ghost use Rattle.control.specs.Counters.{counted, intervalBegins, frameBegins};
+ghost use Rattle.control.specs.Counters.{countedBy, counted, intervalBegins, frameBegins, leftOfInterval};
 use base::units::Intervals;
 use base::units::Samples;
 
@@ -111,17 +111,24 @@ impl Clock {
         }
     }
 
-    pub fn count(self) -> Clock
-        requires { ⌜ (self .sample .0 ≤ 24) × (self .interval .0 ≤ 7) ⌝ }
-        ensures { λ r. ⌜ r ≡ counted self ⌝ }
+    pub fn count_by(self, samples: u64) -> Clock
+        requires { ⌜ (self .sample .0 ≤ 24) × (self .interval .0 ≤ 7) × (samples ≤ 25) ⌝ }
+        ensures { λ r. ⌜ r ≡ countedBy samples self ⌝ }
     {
-        let next = self.sample.0 + 1;
+        let next = self.sample.0 + samples;
         let interval = self.interval.0 + next / Control::SAMPLES_PER_INTERVAL;
         Clock {
             sounding: self.sounding,
             sample: Samples(next % Control::SAMPLES_PER_INTERVAL),
             interval: Intervals(interval % Control::INTERVALS_PER_FRAME),
         }
+    }
+
+    pub fn count(self) -> Clock
+        requires { ⌜ (self .sample .0 ≤ 24) × (self .interval .0 ≤ 7) ⌝ }
+        ensures { λ r. ⌜ r ≡ counted self ⌝ }
+    {
+        self.count_by(1)
     }
 
     pub fn interval_begins(self) -> bool
@@ -134,5 +141,17 @@ impl Clock {
         ensures { λ r. ⌜ r ≡ frameBegins self ⌝ }
     {
         (self.sample.0 == 0) & (self.interval.0 == 0)
+    }
+
+    // The samples left of an interval in which one has been made.
+    pub fn left_of_interval(self) -> u64
+        requires { ⌜ self .sample .0 ≤ 24 ⌝ }
+        ensures { λ r. ⌜ r ≡ leftOfInterval self ⌝ }
+    {
+        if self.sample.0 == 0 {
+            0
+        } else {
+            Control::SAMPLES_PER_INTERVAL - self.sample.0
+        }
     }
 }

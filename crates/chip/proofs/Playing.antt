@@ -1,0 +1,137 @@
+-- Steps within an interval in which a sample has been made: the control counts, and the sound plays on.
+-- Assumes nothing.
+use mathlib.Core.Path.{_≡_, refl, sym, ap, ap₂, _∙_, subst}
+use mathlib.Core.Bool.{Bool, true, false, not, cond, _&&_}
+use mathlib.Core.List.{List, [], _∷_, _++_}
+use Prim.Native.Nat.{ℕ, zero, suc, _+_, _-_, _≤_}
+use native.Mathlib.Numerals.{add-one}
+use native.Mathlib.Omega.{arith}
+use borrow.Author.Tests.{ne-eqb, eqb-false, eqb-true}
+use lib.Dec.{eqb, leb}
+use lib.IntN.{ℤ}
+use Rattle.base.specs.Steps.{stateAfter, outputs}
+use Rattle.base.proofs.Booleans.{both-true}
+use Rattle.base.proofs.Steps.{after-add, outputs-add, after-keeps}
+use Rattle.voice.specs.Layout.{pitches}
+use Rattle.sound.specs.Sample.{sampled, soundAfter, valuesOf, sampleStep as soundStep}
+use Rattle.sound.specs.Interpolation.{interpolated}
+use Rattle.sound.specs.declared.state.Sound.{Sound}
+use Rattle.control.specs.Counters.{countedBy, intervalBegins, leftOfInterval}
+use Rattle.control.specs.Validity.{speaks, clockValid}
+use Rattle.speech.specs.Advance.{withClock}
+use Rattle.speech.proofs.Moving.{advanced-within}
+use Rattle.chip.specs.Types.{Mode, Clock, Moved, Chip, Stepped}
+use Rattle.chip.specs.Step.{sounded, steps, stepFault}
+use Rattle.chip.specs.Run.{sampleStep, playedOn}
+use Rattle.chip.proofs.Ranges.{chip-ranges, valid-clock}
+use Rattle.chip.proofs.Stepping.{passed, step-taken}
+use Rattle.chip.proofs.StepsValid.{goes-on}
+
+-- ---- the counters
+
+-- a clock from its counters
+abbrev clockAt : Clock → ℕ → ℕ → Clock
+clockAt t s i = record { sounding = t .sounding; sample = record { 0 = s }; interval = record { 0 = i } }
+
+counted-none : (t : Clock) → t .sample .0 ≤ 24 → t .interval .0 ≤ 7 → countedBy 0 t ≡ t
+counted-none t s i = ap₂ (clockAt t) (omega arith) (omega arith)
+
+counted-more : (n : ℕ) (t : Clock) → countedBy 1 (countedBy n t) ≡ countedBy (n + 1) t
+counted-more n t = ap₂ (clockAt t) (omega arith) (omega arith)
+
+pub left-few : (t : Clock) → leftOfInterval t ≤ 25
+left-few t = go (intervalBegins t)
+  where
+    go : (b : Bool) → cond b 0 (25 - t .sample .0) ≤ 25
+    go true = omega arith
+    go false = omega arith
+
+-- a clock with samples left has made one, and sounds
+inside : (t : Clock) → 1 ≤ leftOfInterval t → (1 ≤ t .sample .0) × (leftOfInterval t ≡ 25 - t .sample .0)
+inside t l = go (intervalBegins t) refl
+  where
+    go : (b : Bool) → intervalBegins t ≡ b → (1 ≤ t .sample .0) × (leftOfInterval t ≡ 25 - t .sample .0)
+    go true e = absurd (omega (arith, rw e at l))
+    go false e = let n = eqb-false (t .sample .0) 0 e in (omega (arith, n), rw e)
+
+sounds : (m : Mode) (t : Clock) → clockValid m t ≡ true → 1 ≤ t .sample .0 → t .sounding ≡ true
+sounds m t h l = go (t .sounding) refl
+  where
+    go : (b : Bool) → t .sounding ≡ b → t .sounding ≡ true
+    go true e = e
+    go false e =
+        let s = eqb (t .sample .0) 0 in
+        let i = eqb (t .interval .0) 0 in
+        let rest = both-true (leb (t .sample .0) 24 && leb (t .interval .0) 7) (s && i && not (speaks m)) (rw e at h) .1 in
+        let none = eqb-true (t .sample .0) 0 (both-true s i (both-true (s && i) (not (speaks m)) rest .0) .0) in
+        absurd (omega (arith, none))
+
+-- ---- the steps
+
+module _ (image voice : List ℕ) where
+  within-step : (c : Chip) → stepFault image voice c ≡ 0 → c .control .clock .sounding ≡ true → (c .control .clock .sample .0 ≡ 0 → ⊥)
+      → sampleStep image voice c ≡ (playedOn voice 1 c, sampled pitches voice (c .sound) .value)
+  unfolding steps
+  within-step c h on n =
+      let t = c .control .clock in
+      let inside : intervalBegins t ≡ false = ne-eqb (t .sample .0) 0 n in
+      ap (λ (r : Stepped). (r .chip, r .sample)) (sym (step-taken image voice c refl h refl))
+      ∙ ap (λ (m : Moved). (record { control = m .control; sound = sounded voice t (m .action) (c .sound) .sound }, sounded voice t (m .action) (c .sound) .value)) (sym (advanced-within image (c .control) on (rw inside) refl))
+      ∙ ap (λ (b : Bool). (record { control = withClock (countedBy 1 t) (c .control); sound = sampled pitches voice (cond b (interpolated (t .interval) (c .sound)) (c .sound)) .sound }, sampled pitches voice (cond b (interpolated (t .interval) (c .sound)) (c .sound)) .value)) inside
+
+  -- a step without a fault leads to another
+  abbrev Faultless : Chip → Type 0
+  Faultless c = stepFault image voice c ≡ 0
+
+  faultless-after : (n : ℕ) (c : Chip) → Faultless c → Faultless (stateAfter (sampleStep image voice) n c)
+  faultless-after n c h = after-keeps (sampleStep image voice) Faultless (λ c h. goes-on image voice c h (sym (step-taken image voice c refl h refl))) n h
+
+  module _ (c : Chip) (h : stepFault image voice c ≡ 0) (on : c .control .clock .sounding ≡ true)
+      (made : 1 ≤ c .control .clock .sample .0) (s : c .control .clock .sample .0 ≤ 24) (i : c .control .clock .interval .0 ≤ 7) where
+    -- the states after n steps, and their samples
+    record Within (n : ℕ) : Type 0 where
+      state : stateAfter (sampleStep image voice) n c ≡ playedOn voice n c
+      samples : outputs (sampleStep image voice) n c ≡ valuesOf pitches voice n (c .sound)
+
+    within-more : (n : ℕ) → c .control .clock .sample .0 + n ≤ 24 → Within n → Within (n + 1)
+    within-more n l w =
+        let d = playedOn voice n c in
+        let one = within-step d (subst Faultless (w .state) (faultless-after n c h)) on (λ e. omega (arith, e)) in
+        record {
+          state =
+              after-add (sampleStep image voice) n 1 c
+              ∙ ap (λ (d : Chip). sampleStep image voice d .0) (w .state)
+              ∙ ap (λ (r : Chip × ℤ). r .0) one
+              ∙ ap₂ (λ (t : Clock) (s : Sound). record { control = withClock t (c .control); sound = s }) (counted-more n (c .control .clock)) (sym (after-add (soundStep pitches voice) n 1 (c .sound)));
+          samples =
+              outputs-add (sampleStep image voice) n 1 c
+              ∙ ap₂ _++_ (w .samples) (ap (λ (d : Chip). sampleStep image voice d .1 ∷ []) (w .state) ∙ ap (λ (r : Chip × ℤ). r .1 ∷ []) one)
+              ∙ sym (outputs-add (soundStep pitches voice) n 1 (c .sound));
+        }
+
+    within-steps : (n : ℕ) → c .control .clock .sample .0 + n ≤ 25 → Within n
+    within-steps zero l =
+        record {
+          state = sym (ap (λ (t : Clock). record { control = withClock t (c .control); sound = c .sound }) (counted-none (c .control .clock) s i));
+          samples = refl;
+        }
+    within-steps (suc n) l = subst Within (add-one n) (within-more n (omega arith) (within-steps n (omega arith)))
+
+  -- the samples left of an interval, or the first n of them
+  pub record Played (n : ℕ) (c : Chip) : Type 0 where
+    pub state : playedOn voice n c ≡ stateAfter (sampleStep image voice) n c
+    pub samples : valuesOf pitches voice n (c .sound) ≡ outputs (sampleStep image voice) n c
+    pub faultless : stepFault image voice (playedOn voice n c) ≡ 0
+
+  pub played : (n : ℕ) (c : Chip) → stepFault image voice c ≡ 0 → 1 ≤ leftOfInterval (c .control .clock) → n ≤ leftOfInterval (c .control .clock) → Played n c
+  played n c h l m =
+      let v = passed image voice c h .chip-valid in
+      let t = c .control .clock in
+      let r = valid-clock c v in
+      let i = inside t l in
+      let w = within-steps c h (sounds (c .control .mode) t (chip-ranges c v .control .clock) (i .0)) (i .0) (r .0) (r .1) n (omega (arith, r .0, i .1)) in
+      record {
+        state = sym (w .state);
+        samples = sym (w .samples);
+        faultless = subst Faultless (w .state) (faultless-after n c h);
+      }

@@ -1,0 +1,15 @@
+-- `chip::state::Chip::play_on` meets its contract. Assumes nothing.
+use borrow.Author.Needs.{needs}
+use denote.Ref.{now}
+use Rattle.chip.proofs.Ranges.{chip-ranges, valid-clock}
+use Rattle.chip.proofs.state.Chip.play_on.Statement.{statement}
+use Rattle.chip.proofs.state.Chip.play_on.Tie as tie
+
+pub play-on-spec : {M : Type 1} → statement M
+play-on-spec =
+    tie.close
+    (tie.spec
+    (λ c κs. let s = c .before .before .before in let r = valid-clock (s .args .self) (s .pre .0) in (r .0, r .1, s .pre .1))
+    (λ c κs. let s = c .before .before .before .before .before .before in chip-ranges (s .args .self) (s .pre .0) .sound)
+    (λ c. search needs)
+    (λ c. (rw (c .before .before .before .before .count-by .ensures, c .before .play .ensures .0), c .before .play .ensures .1)))
