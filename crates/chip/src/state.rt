@@ -1,4 +1,4 @@
-// The chip's value, power-up, and the chip with one of its parts changed.
+// The chip's value, its device numbers, power-up, and the chip with one of its parts changed.
 ghost use mathlib.Core.Path.{_≡_};
 ghost use Rattle.chip.specs.State.{powerUp, withPlace, withFifo, withPort, withMode, talking};
 use control::state::Clock;
@@ -15,6 +15,26 @@ pub struct Chip {
 }
 
 impl Chip {
+    pub const FIFO_SIZE: u8 = Control::FIFO_SIZE;
+
+    pub const LOW_LEVEL: u8 = Control::LOW_LEVEL;
+
+    pub const START_LEVEL: u8 = Control::START_LEVEL;
+
+    pub const IMAGE_LIMIT: usize = Control::IMAGE_LIMIT;
+
+    pub const POSITION_LIMIT: usize = Control::POSITION_LIMIT;
+
+    pub const ROM_SIZE: usize = Control::ROM_SIZE;
+
+    pub const ADDRESS_LIMIT: usize = Control::ADDRESS_LIMIT;
+
+    pub const NIBBLES: u8 = Control::NIBBLES;
+
+    pub const SAMPLES_PER_INTERVAL: u64 = Control::SAMPLES_PER_INTERVAL;
+
+    pub const INTERVALS_PER_FRAME: u64 = Control::INTERVALS_PER_FRAME;
+
     pub fn power_up() -> Chip
         ensures { λ r. ⌜ r ≡ powerUp ⌝ }
     {

@@ -54,6 +54,7 @@ fn branch_address(image: &[u8], address: usize) -> usize
 }
 
 impl Place {
+    // After Load Address of a nibble. The callers of these three have tested that the place is in its ranges.
     pub fn load(self, value: u8) -> Place
         requires { ⌜ (self .nibble ≤ 4) × (value < 16) ⌝ }
         ensures { λ r. ⌜ r ≡ loaded self value ⌝ }
@@ -66,6 +67,7 @@ impl Place {
         }
     }
 
+    // After Read Byte.
     pub fn past_byte(self) -> Place
         requires { ⌜ self .position ≤ positionLimit ⌝ }
         ensures { λ r. ⌜ r ≡ pastByte self ⌝ }
@@ -76,6 +78,7 @@ impl Place {
         }
     }
 
+    // After Read and Branch.
     pub fn branch(self, image: &[u8]) -> Place
         requires { ⌜ self .position ≤ positionLimit ⌝ }
         ensures { λ r. ⌜ r ≡ branched (now (image .entry)) self ⌝ }
@@ -86,6 +89,7 @@ impl Place {
         }
     }
 
+    // After Speak.
     pub fn restart(self) -> Place
         ensures { λ r. ⌜ r ≡ restarted self ⌝ }
     {

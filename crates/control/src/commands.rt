@@ -80,7 +80,7 @@ impl Mode {
         }
     }
 
-    // Whether a byte of a command needs bits beyond the image.
+    // Whether a byte of a command needs bits beyond the image. The caller has tested the image and the position.
     pub fn beyond(self, image: &[u8], position: usize, command: Command) -> bool
         requires { ⌜ (position ≤ positionLimit) × (length (now image) ≤ imageLimit) ⌝ }
         ensures { λ r. ⌜ r ≡ beyond self (now (image .entry)) position command ⌝ }

@@ -25,6 +25,7 @@ fn shift(bytes: [u8; 16], n: usize) -> [u8; 16]
 }
 
 impl Fifo {
+    // The FIFO with a byte more. The caller has tested that there is room.
     pub fn append(self, byte: u8) -> Fifo
         requires { ⌜ self .level < fifoSize ⌝ }
         ensures { λ r. ⌜ r ≡ appended self byte ⌝ }
@@ -48,7 +49,7 @@ impl Fifo {
         self.level == 0
     }
 
-    // The FIFO with so many bits of its oldest bytes gone.
+    // The FIFO with so many bits of its oldest bytes gone. The caller has read them there.
     pub fn use_up(self, bits: usize) -> Fifo
         requires { ⌜ (bits ≤ 8 * self .level) × (self .level ≤ fifoSize) ⌝ }
         ensures { λ r. ⌜ r ≡ usedUp self bits ⌝ }

@@ -111,6 +111,7 @@ impl Clock {
         }
     }
 
+    // These three take counters in their ranges, so that no sum is out of range: a valid chip has such.
     pub fn count_by(self, samples: u64) -> Clock
         requires { ⌜ (self .sample .0 ≤ 24) × (self .interval .0 ≤ 7) × (samples ≤ 25) ⌝ }
         ensures { λ r. ⌜ r ≡ countedBy samples self ⌝ }

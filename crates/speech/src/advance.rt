@@ -186,7 +186,7 @@ fn boundary(control: Control, image: &[u8]) -> Moved
     }
 }
 
-// A sample step of the control.
+// A sample step of the control, which the caller has tested, as it has the image.
 pub fn advance(control: Control, image: &[u8]) -> Moved
     requires { ⌜ (length (now image) ≤ imageLimit) × (controlValid control ≡ true) ⌝ }
     ensures { λ r. ⌜ r ≡ advanced (now (image .entry)) control ⌝ }
