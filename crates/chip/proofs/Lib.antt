@@ -5,3 +5,4 @@ pub mod KeptValid
 pub mod Stepping
 pub mod StepsValid
 pub mod Playing
+pub mod Silent

@@ -2,7 +2,8 @@
 ghost use mathlib.Core.Path.{_≡_};
 ghost use mathlib.Core.Bool.{true};
 ghost use Prim.Native.Nat.{_≤_, min};
-ghost use lib.ListN.{length};
+ghost use lib.IntN.{pos};
+ghost use lib.ListN.{length, replicate};
 ghost use Rattle.base.specs.Steps.{stateAfter, outputs};
 ghost use Rattle.voice.specs.Layout.{pitches};
 ghost use Rattle.sound.specs.Sample.{valuesOf};
@@ -23,6 +24,17 @@ fn smaller(a: usize, b: usize) -> usize
     if a < b { a } else { b }
 }
 
+// The samples of a chip that does not sound.
+fn silence(out: &mut [i16])
+    ensures { λ r. ⌜ now (out .exit) ≡ replicate (length (now (out .entry))) (pos 0) ⌝ }
+{
+    let mut i = 0;
+    while i < out.len() {
+        out[i] = 0;
+        i += 1;
+    }
+}
+
 impl Chip {
     // Samples up to the end of an interval in which one has been made, one for each element: the sound is not interpolated
     // between them, and the control only counts.
@@ -39,7 +51,8 @@ impl Chip {
         Chip { control, sound }
     }
 
-    // A step for each element, once the checks have passed. What is left of an interval is played at once.
+    // A step for each element, once the checks have passed. Silence and what is left of an interval are
+    // written at once.
     fn fill(self, image: &[u8], voice: &[u8], out: &mut [i16]) -> Chip
         requires { ⌜ stepFault (now image) (now voice) self ≡ 0 ⌝ }
         ensures { λ r. ⌜ r ≡ stateAfter (sampleStep (now (image .entry)) (now (voice .entry))) (length (now (out .entry))) self ⌝ }
@@ -49,8 +62,13 @@ impl Chip {
         let mut i = 0;
         while i < out.len() {
             let clock = chip.control.clock;
+            let sounding = clock.sounding;
             let left = clock.left_of_interval() as usize;
-            if left == 0 {
+            if !sounding {
+                let end = out.len();
+                silence(&mut out[i..end]);
+                i = end;
+            } else if left == 0 {
                 let stepped = chip.take_step(image, voice);
                 let next = stepped.chip;
                 let sample = stepped.sample;
