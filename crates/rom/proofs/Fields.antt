@@ -2,25 +2,16 @@
 -- Assumes nothing.
 use mathlib.Core.Path.{_≡_}
 use mathlib.Core.List.{List}
-use Prim.Native.Nat.{ℕ, zero, suc, _+_, _*_, _/_, _^_, _≤_, _<_}
-use native.Mathlib.Nat.{zero-div, pow-suc, pow-le-pow-right}
-use native.Mathlib.Numerals.{add-one}
+use Prim.Native.Nat.{ℕ, zero, suc, _+_, _*_, _/_, _%_, _^_, _≤_, _<_}
+use native.Mathlib.Nat.{pow-suc, pow-le-pow-right, add-zero, add-suc, mul-assoc}
 use native.Mathlib.Omega.{arith}
 use lib.Dec.{lit<}
-use lib.ListN.{length, List·getD-eq-default}
+use lib.Pow.{high, low}
 use Rattle.rom.specs.Bits.{bit, field}
 
 pub bit-lt : (s : List ℕ) (i : ℕ) → bit s i < 2
 unfolding bit
 bit-lt s i = omega arith
-
-pub bit-past : (s : List ℕ) (i : ℕ) → length s ≤ i / 8 → 0 ≡ bit s i
-unfolding bit
-bit-past s i h = rw (List·getD-eq-default s 0 h, zero-div)
-
-pub field-suc : (s : List ℕ) (at w : ℕ) → field s at (w + 1) ≡ 2 * field s at w + bit s (at + w)
-unfolding field
-field-suc s at w = rw add-one
 
 pub field-lt : (s : List ℕ) (at w : ℕ) → field s at w < 2 ^ w
 unfolding field
@@ -30,3 +21,18 @@ field-lt s at (suc w) = omega (arith, pow-suc 2 w, field-lt s at w, bit-lt s (at
 -- a field of at most k bits
 pub field-below : (s : List ℕ) (at : ℕ) {w k : ℕ} → w ≤ k → field s at w < 2 ^ k
 field-below s at {w} {k} h = omega (arith, field-lt s at w, pow-le-pow-right {n = 2} (lit< tt) h)
+
+-- a field of a + b bits is its first a bits, and the b bits after them
+pub field-split : (s : List ℕ) (at a b : ℕ) → field s at (a + b) ≡ field s at a * 2 ^ b + field s (at + a) b
+unfolding field
+field-split s at a zero = rw (add-zero a) (omega arith)
+field-split s at a (suc b) =
+    let p : field s at a * 2 ^ suc b ≡ field s at a * 2 ^ b * 2 = rw (pow-suc, mul-assoc) in
+    let e : at + (a + b) ≡ at + a + b = omega arith in
+    rw (add-suc a b, e) (omega (arith, p, field-split s at a b))
+
+-- the w bits of a field that stand after its first a and before its last b
+pub field-inside : (s : List ℕ) (at a w b : ℕ) → field s at (a + w + b) / 2 ^ b % 2 ^ w ≡ field s (at + a) w
+field-inside s at a w b =
+    rw (field-split s at (a + w) b, high (field s at (a + w)) b (field-lt s (at + (a + w)) b), field-split s at a w)
+    (low (field s at a) w (field-lt s (at + a) w))

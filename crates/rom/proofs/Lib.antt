@@ -1,4 +1,5 @@
 pub mod Fields
+pub mod Words
 pub mod Checks
 pub mod Decoding
 pub mod Taking

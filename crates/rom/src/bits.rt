@@ -1,7 +1,8 @@
 // The bits of a lent image.
 ghost use mathlib.Core.Path.{_≡_};
-ghost use Prim.Native.Nat.{_≤_, _^_};
-ghost use Rattle.rom.specs.Bits.{bit, field, imageValid, imageFault};
+ghost use Prim.Native.Nat.{_+_, _*_, _≤_, _^_};
+ghost use lib.ListN.{getD};
+ghost use Rattle.rom.specs.Bits.{field, imageValid, imageFault};
 use base::refusal::BEYOND;
 use base::refusal::IMAGE;
 use base::refusal::TAKEN;
@@ -27,26 +28,49 @@ pub fn image_fault(image: &[u8], beyond: bool) -> u8
     if beyond { BEYOND } else { TAKEN }
 }
 
-// Bit i of s, the most significant of a byte first; 0 past the end.
-fn bit_at(s: &[u8], i: usize) -> u8
-    ensures { λ r. ⌜ r ≡ bit (now (s .entry)) i ⌝ }
+// Byte n of s; 0 past the end.
+fn byte_at(s: &[u8], n: usize) -> u8
+    ensures { λ r. ⌜ r ≡ getD (now (s .entry)) n 0 ⌝ }
 {
-    let n = i / 8;
-    if n < s.len() {
-        (s[n] >> (7 - i % 8)) % 2
-    } else {
-        0
-    }
+    if n < s.len() { s[n] } else { 0 }
 }
 
-// The number in the `width` bits from bit `at` on, the first the most significant.
+// The number of four bytes, the first the most significant.
+fn word(a: u8, b: u8, c: u8, d: u8) -> u64
+    ensures { λ r. ⌜ r ≡ 16777216 * a + 65536 * b + 256 * c + d ⌝ }
+{
+    16777216 * a as u64 + 65536 * b as u64 + 256 * c as u64 + d as u64
+}
+
+// The number in the 32 bits from byte n on.
+fn word_at(s: &[u8], n: usize) -> u64
+    requires { ⌜ n ≤ 2 ^ 32 ⌝ }
+    ensures { λ r. ⌜ r ≡ field (now (s .entry)) (8 * n) 32 ⌝ }
+{
+    if n + 3 < s.len() {
+        return word(s[n], s[n + 1], s[n + 2], s[n + 3]);
+    }
+    word(
+        byte_at(s, n),
+        byte_at(s, n + 1),
+        byte_at(s, n + 2),
+        byte_at(s, n + 3),
+    )
+}
+
+// The number in the `width` bits from bit `at` on, the first the most significant. They stand in the 32 bits from their
+// first byte on.
+fn wide_field_at(s: &[u8], at: usize, width: usize) -> u64
+    requires { ⌜ (width ≤ 25) × (at ≤ 2 ^ 32) ⌝ }
+    ensures { λ r. ⌜ r ≡ field (now (s .entry)) at width ⌝ }
+{
+    (word_at(s, at / 8) >> (32 - at % 8 - width)) % (1 << width)
+}
+
+// The same for at most eight bits.
 pub fn field_at(s: &[u8], at: usize, width: usize) -> u8
     requires { ⌜ (width ≤ 8) × (at ≤ 2 ^ 32) ⌝ }
     ensures { λ r. ⌜ r ≡ field (now (s .entry)) at width ⌝ }
 {
-    let mut v: u8 = 0;
-    for k in 0..width {
-        v = v * 2 + bit_at(s, at + k);
-    }
-    v
+    wide_field_at(s, at, width) as u8
 }
