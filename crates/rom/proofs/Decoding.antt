@@ -1,8 +1,8 @@
--- Which frame is decoded, by its fields, and whether it is whole: a law for each answer.
+-- The head of a frame as one field; which frame is decoded, by its fields, and whether it is whole: a law for each answer.
 -- Assumes nothing.
 use mathlib.Core.Path.{_≡_, refl}
 use mathlib.Core.List.{List}
-use Prim.Native.Nat.{ℕ, _+_, _*_, _≤_, _<_}
+use Prim.Native.Nat.{ℕ, _+_, _*_, _/_, _%_, _^_, _≤_, _<_}
 use borrow.Author.Tests.{ne-eqb, le-leb, lt-leb}
 use native.Mathlib.Omega.{arith}
 use lib.ListN.{length}
@@ -12,6 +12,18 @@ use Rattle.rom.specs.Reader.{silenceCode, stopCode, unvoicedAt, voicedAt
 use Rattle.rom.specs.declared.frames.Frame.{Frame}
 use Rattle.rom.specs.declared.frames.Frame.the-variants.{Silence, Stop, Repeat, Unvoiced, Voiced}
 use Rattle.rom.specs.declared.reader.Taken.the-variants.{Whole, Cut}
+use Rattle.rom.proofs.Fields.{field-first, field-last, field-inside}
+
+-- energy, repeat bit and pitch in the number of their 5 + P bits
+module _ (P : ℕ) (s : List ℕ) (at : ℕ) {x : ℕ} (h : x ≡ field s at (5 + P)) where
+  pub head-energy : x / 2 ^ (1 + P) ≡ field s at 4
+  head-energy = let e : 5 + P ≡ 4 + (1 + P) = omega arith in rw (h, e) (field-first s at 4 (1 + P))
+
+  pub head-repeat : x / 2 ^ P % 2 ≡ field s (at + 4) 1
+  head-repeat = rw h (field-inside s at 4 1 P)
+
+  pub head-pitch : x % 2 ^ P ≡ field s (at + 5) P
+  head-pitch = rw h (field-last s at 5 P)
 
 module _ (P : ℕ) (s : List ℕ) (at : ℕ) where
   module _ {e : ℕ} (he : e ≡ field s at 4) where

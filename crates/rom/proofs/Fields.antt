@@ -31,8 +31,14 @@ field-split s at a (suc b) =
     let e : at + (a + b) ≡ at + a + b = omega arith in
     rw (add-suc a b, e) (omega (arith, p, field-split s at a b))
 
--- the w bits of a field that stand after its first a and before its last b
+-- the first a bits of a field
+pub field-first : (s : List ℕ) (at a b : ℕ) → field s at (a + b) / 2 ^ b ≡ field s at a
+field-first s at a b = rw (field-split s at a b) (high (field s at a) b (field-lt s (at + a) b))
+
+-- its last b bits
+pub field-last : (s : List ℕ) (at a b : ℕ) → field s at (a + b) % 2 ^ b ≡ field s (at + a) b
+field-last s at a b = rw (field-split s at a b) (low (field s at a) b (field-lt s (at + a) b))
+
+-- the w bits after its first a and before its last b
 pub field-inside : (s : List ℕ) (at a w b : ℕ) → field s at (a + w + b) / 2 ^ b % 2 ^ w ≡ field s (at + a) w
-field-inside s at a w b =
-    rw (field-split s at (a + w) b, high (field s at (a + w)) b (field-lt s (at + (a + w)) b), field-split s at a w)
-    (low (field s at a) w (field-lt s (at + a) w))
+field-inside s at a w b = rw (field-first s at (a + w) b) (field-last s at a w)

@@ -1,6 +1,6 @@
 -- Bytes and words of an image, and the fields inside a word.
 -- Assumes nothing.
-use mathlib.Core.Path.{_≡_, sym, _∙_}
+use mathlib.Core.Path.{_≡_, sym}
 use mathlib.Core.List.{List}
 use Prim.Native.Nat.{ℕ, zero, suc, _+_, _*_, _-_, _/_, _%_, _^_, _≤_, _<_}
 use native.Mathlib.Nat.{one-mul}
@@ -36,7 +36,9 @@ field-byte s n (suc w) h =
     rw (d, bit-byte s n w (omega arith), field-byte s n w (omega arith), e, ← shr-shr x (7 - w) 1, ← add-one w)
     (omega (arith, mod-pow-add (x / 2 ^ (7 - w)) w 1))
 
+-- s is a list of bytes
 module _ (s : List ℕ) (bytes : (i : ℕ) → Fits w8 (getD s i 0)) where
+  -- the field of byte n
   byte-is : (n : ℕ) → field s (8 * n) 8 ≡ getD s n 0
   byte-is n = omega (arith, bytes n, field-byte s n 8 (omega arith))
 
@@ -58,6 +60,7 @@ module _ (s : List ℕ) (bytes : (i : ℕ) → Fits w8 (getD s i 0)) where
         byte-is (n + 3),
       )
 
+-- the divisor that leaves w bits
 pub one-shifted : (w : ℕ) → w ≤ 25 → (1 * 2 ^ w) % 2 ^ 64 ≡ 2 ^ w
 one-shifted w h = rw (shl-exact {a = 1} 1 w 64 (lit< tt) (omega arith), one-mul)
 

@@ -60,7 +60,7 @@ fn word_at(s: &[u8], n: usize) -> u64
 
 // The number in the `width` bits from bit `at` on, the first the most significant. They stand in the 32 bits from their
 // first byte on.
-fn wide_field_at(s: &[u8], at: usize, width: usize) -> u64
+pub(crate) fn wide_field_at(s: &[u8], at: usize, width: usize) -> u64
     requires { ⌜ (width ≤ 25) × (at ≤ 2 ^ 32) ⌝ }
     ensures { λ r. ⌜ r ≡ field (now (s .entry)) at width ⌝ }
 {

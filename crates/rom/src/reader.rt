@@ -1,12 +1,14 @@
 // The frame reader over a lent slice and a bit, with the width of the pitch field as a parameter. It serves an image and a
 // FIFO's bytes alike. And the operation that takes a frame at a bit of an image.
 ghost use mathlib.Core.Path.{_≡_};
-ghost use Prim.Native.Nat.{_-_, _≤_, _<_, _^_};
+ghost use Prim.Native.Nat.{_+_, _-_, _≤_, _<_, _^_};
 ghost use lib.ListN.{length};
+ghost use Rattle.rom.specs.Bits.{field};
 ghost use Rattle.rom.specs.Frames.{pitchBits};
 ghost use Rattle.rom.specs.Reader.{unvoicedAt, voicedAt, decoded, frameAt, noFrame, frameTakenOf};
 use crate::bits::field_at;
 use crate::bits::image_fault;
+use crate::bits::wide_field_at;
 use crate::frames::Found;
 use crate::frames::Frame;
 use crate::frames::PITCH_BITS;
@@ -15,14 +17,34 @@ use base::refusal::NO_PHRASE;
 use base::refusal::TAKEN;
 
 // The energies of a silence and a stop.
-const SILENCE_CODE: u8 = 0;
+pub(crate) const SILENCE_CODE: u8 = 0;
 
-const STOP_CODE: u8 = 15;
+pub(crate) const STOP_CODE: u8 = 15;
 
 // A frame is taken whole, with the bit after it, or the bits end inside it or before it.
 pub enum Taken {
     Whole(Frame, usize),
     Cut,
+}
+
+// What the kind of a frame is told by.
+pub(crate) struct Head {
+    pub energy: u8,
+    pub repeat: u8,
+    pub pitch: u8,
+}
+
+// The head of the frame at bit `at`, read as one field.
+pub(crate) fn head_at(s: &[u8], at: usize, pitch_bits: usize) -> Head
+    requires { ⌜ («pitch_bits» ≤ 8) × (at < 2 ^ 32 - 64) ⌝ }
+    ensures { λ r. ⌜ (r .energy ≡ field (now (s .entry)) at 4) × (r .repeat ≡ field (now (s .entry)) (at + 4) 1) × (r .pitch ≡ field (now (s .entry)) (at + 5) «pitch_bits») ⌝ }
+{
+    let bits = wide_field_at(s, at, 5 + pitch_bits);
+    Head {
+        energy: (bits >> (1 + pitch_bits)) as u8,
+        repeat: ((bits >> pitch_bits) % 2) as u8,
+        pitch: (bits % (1 << pitch_bits)) as u8,
+    }
 }
 
 // The unvoiced frame whose K1 to K4 stand from bit `at` on.
@@ -65,15 +87,16 @@ fn decode(s: &[u8], at: usize, pitch_bits: usize) -> Frame
     requires { ⌜ («pitch_bits» ≤ 8) × (at < 2 ^ 32 - 64) ⌝ }
     ensures { λ r. ⌜ r ≡ decoded «pitch_bits» (now (s .entry)) at ⌝ }
 {
-    let energy = field_at(s, at, 4);
+    let head = head_at(s, at, pitch_bits);
+    let energy = head.energy;
+    let repeat = head.repeat;
+    let pitch = head.pitch;
     if energy == SILENCE_CODE {
         return Frame::Silence;
     }
     if energy == STOP_CODE {
         return Frame::Stop;
     }
-    let repeat = field_at(s, at + 4, 1);
-    let pitch = field_at(s, at + 5, pitch_bits);
     if repeat == 1 {
         return Frame::Repeat { energy, pitch };
     }
