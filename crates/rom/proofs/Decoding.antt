@@ -1,10 +1,12 @@
 -- The head of a frame as one field; which frame is decoded, by its fields, and whether it is whole: a law for each answer.
 -- Assumes nothing.
 use mathlib.Core.Path.{_≡_, refl}
+use mathlib.Core.Bool.{Bool, true, false, cond}
 use mathlib.Core.List.{List}
 use Prim.Native.Nat.{ℕ, _+_, _*_, _/_, _%_, _^_, _≤_, _<_}
 use borrow.Author.Tests.{ne-eqb, le-leb, lt-leb}
 use native.Mathlib.Omega.{arith}
+use lib.Dec.{leb}
 use lib.ListN.{length}
 use Rattle.rom.specs.Bits.{field}
 use Rattle.rom.specs.Frames.{bitCount}
@@ -57,6 +59,19 @@ module _ (P : ℕ) (s : List ℕ) (at : ℕ) where
     pub cut-is : 8 * length s < at + n → Cut ≡ frameAt P s at
     unfolding frameAt
     cut-is h = simp (← hf, ← hn, lt-leb _ _ h)
+
+  -- a whole frame is the one decoded, and ends after its bits
+  pub whole-decoded : {f : Frame} {n : ℕ} → Whole f n ≡ frameAt P s at → (f ≡ decoded P s at) × (n ≡ at + bitCount P f)
+  unfolding frameAt
+  whole-decoded {f} {n} h = go (leb (at + bitCount P (decoded P s at)) (8 * length s)) h
+    where
+      go : (b : Bool) → Whole f n ≡ cond b (Whole (decoded P s at) (at + bitCount P (decoded P s at))) Cut
+          → (f ≡ decoded P s at) × (n ≡ at + bitCount P f)
+      go true e =
+          let d : f ≡ decoded P s at = cc in
+          let m : n ≡ at + bitCount P (decoded P s at) = cc in
+          (d, rw d m)
+      go false e = let z : _≡_ {A = ℕ} 0 1 = cc in absurd (omega arith)
 
 pub bit-count-bounds : (P : ℕ) (f : Frame) → (4 ≤ bitCount P f) × (bitCount P f ≤ 44 + P)
 bit-count-bounds P Silence = omega arith

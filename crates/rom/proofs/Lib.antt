@@ -2,6 +2,7 @@ pub mod Fields
 pub mod Words
 pub mod Checks
 pub mod Decoding
+pub mod Extents
 pub mod Taking
 pub mod Encoding
 pub mod CentralLaw

@@ -7,10 +7,12 @@ use lib.Dec.{eqb, leb}
 use lib.ListN.{length}
 use Rattle.base.specs.Refusals.{TAKEN, NO-PHRASE, unlessFault}
 use Rattle.rom.specs.Bits.{field, imageFault}
-use Rattle.rom.specs.Frames.{bitCount}
+use Rattle.rom.specs.Frames.{bitCount, isStop}
 use Rattle.rom.specs.declared.frames.Frame.{Frame}
 use Rattle.rom.specs.declared.frames.Frame.the-variants.{Silence, Stop, Repeat, Unvoiced, Voiced}
 use Rattle.rom.specs.declared.frames.Found.the-variants.{Some, None}
+use Rattle.rom.specs.declared.head.Skipped.{Skipped}
+use Rattle.rom.specs.declared.head.Skipped.the-variants.{Past, RanOut}
 use Rattle.rom.specs.declared.reader.Taken.{Taken}
 use Rattle.rom.specs.declared.reader.Taken.the-variants.{Whole, Cut}
 use Rattle.rom.specs.declared.reader.FrameTaken.{FrameTaken}
@@ -48,6 +50,11 @@ unfoldable pub frameAt : ℕ → List ℕ → ℕ → Taken
 frameAt P s at =
     let f = decoded P s at in
     cond (leb (at + bitCount P f) (8 * length s)) (Whole f (at + bitCount P f)) Cut
+
+-- what the walk asks of the reader's answer: whether the frame is a stop, and the bit after it
+abbrev pub skippedOf : Taken → Skipped
+skippedOf (Whole f next) = Past (isStop f) next
+skippedOf Cut = RanOut
 
 -- a refused call: no frame, and zero for each number
 abbrev pub noFrame : ℕ → FrameTaken

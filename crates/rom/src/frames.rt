@@ -1,7 +1,6 @@
 // Frames: kinds and indexes.
 ghost use mathlib.Core.Path.{_≡_};
-ghost use Prim.Native.Nat.{_≤_};
-ghost use Rattle.rom.specs.Frames.{bitCount, isStop, numbersOf};
+ghost use Rattle.rom.specs.Frames.{isStop, numbersOf};
 
 // The width of the pitch field of the TMS5220 and TMS5200.
 pub const PITCH_BITS: usize = 6;
@@ -41,20 +40,6 @@ pub enum Frame {
 pub enum Found {
     Some(Frame),
     None,
-}
-
-// How many bits a frame has.
-pub fn bit_count(f: Frame, pitch_bits: usize) -> usize
-    requires { ⌜ «pitch_bits» ≤ 8 ⌝ }
-    ensures { λ r. ⌜ r ≡ bitCount «pitch_bits» f ⌝ }
-{
-    match f {
-        Frame::Silence => 4,
-        Frame::Stop => 4,
-        Frame::Repeat { .. } => 5 + pitch_bits,
-        Frame::Unvoiced { .. } => 23 + pitch_bits,
-        Frame::Voiced { .. } => 44 + pitch_bits,
-    }
 }
 
 pub fn is_stop(f: Frame) -> bool

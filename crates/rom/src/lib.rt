@@ -1,5 +1,6 @@
 // The ROM side of document 01: the bits of an image, frames, the frame reader and the phrase walk.
 pub mod bits;
 pub mod frames;
+mod head;
 pub mod phrases;
 pub mod reader;

@@ -7,9 +7,8 @@ ghost use Rattle.rom.specs.Frames.{pitchBits};
 ghost use Rattle.rom.specs.Phrases.{refused, accepted, framesFrom, walkedOver, walkOf, phraseOf};
 use crate::bits::image_fault;
 use crate::frames::PITCH_BITS;
-use crate::frames::is_stop;
-use crate::reader::Taken;
-use crate::reader::frame_at;
+use crate::head::Skipped;
+use crate::head::skip_frame;
 use base::refusal::NO_PHRASE;
 use base::refusal::TAKEN;
 use base::units::Frames;
@@ -61,13 +60,13 @@ fn walk_from(image: &[u8], start: usize, pitch_bits: usize) -> Walked
     let mut at = start;
     let mut count: u32 = 0;
     loop {
-        let taken = frame_at(image, at, pitch_bits);
-        let Taken::Whole(f, next) = taken else {
+        let skipped = skip_frame(image, at, pitch_bits);
+        let Skipped::Past(stop, next) = skipped else {
             return refuse(NO_PHRASE);
         };
         at = next;
         count += 1;
-        if is_stop(f) {
+        if stop {
             return accept(at - start, count);
         }
     }

@@ -1,50 +1,27 @@
 // The frame reader over a lent slice and a bit, with the width of the pitch field as a parameter. It serves an image and a
 // FIFO's bytes alike. And the operation that takes a frame at a bit of an image.
 ghost use mathlib.Core.Path.{_≡_};
-ghost use Prim.Native.Nat.{_+_, _-_, _≤_, _<_, _^_};
+ghost use Prim.Native.Nat.{_-_, _≤_, _<_, _^_};
 ghost use lib.ListN.{length};
-ghost use Rattle.rom.specs.Bits.{field};
 ghost use Rattle.rom.specs.Frames.{pitchBits};
 ghost use Rattle.rom.specs.Reader.{unvoicedAt, voicedAt, decoded, frameAt, noFrame, frameTakenOf};
 use crate::bits::field_at;
 use crate::bits::image_fault;
-use crate::bits::wide_field_at;
 use crate::frames::Found;
 use crate::frames::Frame;
 use crate::frames::PITCH_BITS;
-use crate::frames::bit_count;
+use crate::head::SILENCE_CODE;
+use crate::head::STOP_CODE;
+use crate::head::Skipped;
+use crate::head::head_at;
+use crate::head::skip_frame;
 use base::refusal::NO_PHRASE;
 use base::refusal::TAKEN;
-
-// The energies of a silence and a stop.
-pub(crate) const SILENCE_CODE: u8 = 0;
-
-pub(crate) const STOP_CODE: u8 = 15;
 
 // A frame is taken whole, with the bit after it, or the bits end inside it or before it.
 pub enum Taken {
     Whole(Frame, usize),
     Cut,
-}
-
-// What the kind of a frame is told by.
-pub(crate) struct Head {
-    pub energy: u8,
-    pub repeat: u8,
-    pub pitch: u8,
-}
-
-// The head of the frame at bit `at`, read as one field.
-pub(crate) fn head_at(s: &[u8], at: usize, pitch_bits: usize) -> Head
-    requires { ⌜ («pitch_bits» ≤ 8) × (at < 2 ^ 32 - 64) ⌝ }
-    ensures { λ r. ⌜ (r .energy ≡ field (now (s .entry)) at 4) × (r .repeat ≡ field (now (s .entry)) (at + 4) 1) × (r .pitch ≡ field (now (s .entry)) (at + 5) «pitch_bits») ⌝ }
-{
-    let bits = wide_field_at(s, at, 5 + pitch_bits);
-    Head {
-        energy: (bits >> (1 + pitch_bits)) as u8,
-        repeat: ((bits >> pitch_bits) % 2) as u8,
-        pitch: (bits % (1 << pitch_bits)) as u8,
-    }
 }
 
 // The unvoiced frame whose K1 to K4 stand from bit `at` on.
@@ -112,13 +89,12 @@ pub fn frame_at(s: &[u8], at: usize, pitch_bits: usize) -> Taken
     requires { ⌜ («pitch_bits» ≤ 8) × (at < 2 ^ 32 - 64) × (length (now s) < 2 ^ 32) ⌝ }
     ensures { λ r. ⌜ r ≡ frameAt «pitch_bits» (now (s .entry)) at ⌝ }
 {
+    let skipped = skip_frame(s, at, pitch_bits);
+    let Skipped::Past(_, next) = skipped else {
+        return Taken::Cut;
+    };
     let f = decode(s, at, pitch_bits);
-    let next = at + bit_count(f, pitch_bits);
-    if next <= 8 * s.len() {
-        Taken::Whole(f, next)
-    } else {
-        Taken::Cut
-    }
+    Taken::Whole(f, next)
 }
 
 // What taking a frame at a bit answers: the refusal number, the frame or none, and its bits.
@@ -147,12 +123,12 @@ pub fn frame_taken(image: &[u8], bit: usize) -> FrameTaken
         return no_frame(fault);
     }
     let taken = frame_at(image, bit, PITCH_BITS);
-    let Taken::Whole(f, _) = taken else {
+    let Taken::Whole(f, next) = taken else {
         return no_frame(NO_PHRASE);
     };
     FrameTaken {
         refusal: TAKEN,
         frame: Found::Some(f),
-        bits: bit_count(f, PITCH_BITS),
+        bits: next - bit,
     }
 }

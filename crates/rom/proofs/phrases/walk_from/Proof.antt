@@ -2,10 +2,13 @@
 use borrow.Author.Needs.{needs}
 use Prim.Native.Nat.{_*_, _-_, _+_, _≤_}
 use native.Mathlib.Omega.{arith}
-use mathlib.Core.Path.{_≡_, _∙_}
+use mathlib.Core.Path.{_≡_, sym, _∙_}
 use lib.ListN.{length}
+use Rattle.rom.specs.Frames.{isStop}
 use Rattle.rom.specs.Reader.{frameAt}
+use Rattle.rom.specs.declared.frames.Frame.{Frame}
 use Rattle.rom.specs.declared.reader.Taken.the-variants.{Whole}
+use Rattle.rom.proofs.Extents.{past-is, ran-out-is}
 use Rattle.rom.proofs.Walking.{Come, come-first, come-cut, come-stop, come-on, next-is}
 use Rattle.rom.proofs.phrases.walk_from.Statement.{statement}
 use Rattle.rom.proofs.phrases.walk_from.Tie as tie
@@ -16,21 +19,23 @@ Inv-loop image start pitch-bits at₀ count₀ at count = Come pitch-bits image 
 abbrev μ-loop : tie.MeasureT-loop
 μ-loop image start pitch-bits at₀ count₀ at count = 8 * length image - at
 
--- the frame that was taken
-taken-is : (c : tie.After-taken Inv-loop μ-loop)
+-- the frame that was skipped
+skipped-is : (c : tie.After-skipped Inv-loop μ-loop)
     → let a = c .before .before .before .before .before .args in
-    Whole (c .taken .given .0 .0) (c .taken .given .0 .1 .0) ≡ frameAt (a .pitch-bits) (a .image .now) (c .before .before .before .loop .at)
-taken-is c = let g = c .taken .given .1 in let e = c .before .before .frame-at .ensures in cc
+    (f : Frame)
+    × ((Whole f (c .skipped .given .0 .1 .0) ≡ frameAt (a .pitch-bits) (a .image .now) (c .before .before .before .loop .at))
+    × (isStop f ≡ c .skipped .given .0 .0))
+skipped-is c = past-is (sym (c .skipped .given .1) ∙ c .before .before .skip-frame .ensures)
 
-taken-next : (c : tie.After-taken Inv-loop μ-loop)
+skipped-next : (c : tie.After-skipped Inv-loop μ-loop)
     → let a = c .before .before .before .before .before .args in
     let at = c .before .before .before .loop .at in
-    let n = c .taken .given .0 .1 .0 in
+    let n = c .skipped .given .0 .1 .0 in
     (a .start ≤ n) × (n ≤ 8 * length (a .image .now)) × (at + 4 ≤ n)
-taken-next c =
+skipped-next c =
     let i = c .before .before .before .loop .inv in
     let a = c .before .before .before .before .before .args in
-    omega (arith, next-is (a .pitch-bits) (a .image .now) _ (taken-is c))
+    omega (arith, next-is (a .pitch-bits) (a .image .now) _ (skipped-is c .1 .0))
 
 pub walk-from-spec : {M : Type 1} → statement M
 walk-from-spec =
@@ -44,17 +49,17 @@ walk-from-spec =
     (λ c. search needs)
     (λ c κs. search needs)
     (λ c.
-    let g = c .before .enum-told .given .1 in
-    let e = c .before .before .before .frame-at .ensures in
-    c .refuse .ensures ∙ come-cut (c .before .before .before .before .loop .inv) (cc))
+    let e = sym (c .before .enum-told .given .1) ∙ c .before .before .before .skip-frame .ensures in
+    c .refuse .ensures ∙ come-cut (c .before .before .before .before .loop .inv) (ran-out-is e))
     (λ c. search needs)
+    (λ c. omega (arith, skipped-next (c .before .before)))
     (λ c κs. search needs)
-    (λ c. omega (arith, taken-next (c .before .before .before)))
-    (λ c κs. search needs)
-    (λ c.
-    let b = c .before .before .before .before in
-    c .accept .ensures ∙ come-stop (b .before .before .before .loop .inv) (taken-is b) (cc))
-    (λ c. omega (arith, taken-next (c .before .before .before)))
     (λ c.
     let b = c .before .before .before in
-    come-on (b .before .before .before .loop .inv) (taken-is b) (cc)))
+    let f = skipped-is b in
+    c .accept .ensures ∙ come-stop (b .before .before .before .loop .inv) (f .1 .0) (f .1 .1 ∙ c .before .if1 .taken))
+    (λ c. omega (arith, skipped-next (c .before .before)))
+    (λ c.
+    let b = c .before .before in
+    let f = skipped-is b in
+    come-on (b .before .before .before .loop .inv) (f .1 .0) (f .1 .1 ∙ c .if1 .left)))

@@ -1,7 +1,7 @@
 -- `rom::reader::frame_at` meets its contract. Assumes nothing.
 use borrow.Author.Needs.{needs}
-use native.Mathlib.Omega.{arith}
-use Rattle.rom.proofs.Decoding.{whole-is, cut-is, bit-count-bounds}
+use mathlib.Core.Path.{sym, _∙_}
+use Rattle.rom.proofs.Extents.{ran-out-is, taken-is}
 use Rattle.rom.proofs.reader.frame_at.Statement.{statement}
 use Rattle.rom.proofs.reader.frame_at.Tie as tie
 
@@ -10,8 +10,11 @@ frame-at-spec =
     tie.close
     (tie.spec
     (λ c κs. search needs)
-    (λ c κs. search needs)
-    (λ c. omega (arith, bit-count-bounds (c .before .before .before .args .pitch-bits) (c .before .decode .result)))
     (λ c. search needs)
-    (λ c. search (whole-is))
-    (λ c. search (cut-is)))
+    (λ c. search needs)
+    (λ c. ran-out-is (sym (c .enum-told .given .1) ∙ c .before .before .skip-frame .ensures))
+    (λ c κs. search needs)
+    (λ c.
+    let k = c .before .before .before .before in
+    let a = k .before .before .args in
+    taken-is (a .pitch-bits) (a .s .now) (a .at) (sym (c .before .before .skipped .given .1) ∙ k .skip-frame .ensures) (c .decode .ensures)))

@@ -1,4 +1,4 @@
--- `rom::reader::head_at` meets its contract. Assumes nothing.
+-- `rom::head::head_at` meets its contract. Assumes nothing.
 use borrow.Author.Needs.{needs}
 use Prim.Native.Nat.{_+_}
 use native.Mathlib.Omega.{arith}
@@ -6,8 +6,8 @@ use lib.Pow.{pow-pos}
 use Rattle.rom.proofs.Fields.{field-lt, field-below}
 use Rattle.rom.proofs.Words.{one-shifted}
 use Rattle.rom.proofs.Decoding.{head-energy, head-repeat, head-pitch}
-use Rattle.rom.proofs.reader.head_at.Statement.{statement}
-use Rattle.rom.proofs.reader.head_at.Tie as tie
+use Rattle.rom.proofs.head.head_at.Statement.{statement}
+use Rattle.rom.proofs.head.head_at.Tie as tie
 
 pub head-at-spec : {M : Type 1} → statement M
 head-at-spec =
