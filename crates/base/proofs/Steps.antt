@@ -8,7 +8,7 @@ use native.Mathlib.Nat.{suc-add, zero-add, sub-zero}
 use native.Mathlib.Numerals.{add-one}
 use native.Mathlib.Omega.{arith}
 use borrow.Rule.Slice.PartMut.{midOf, putMid, mid-len, same-len-mid}
-use lib.ListN.{length, take, set, length-append, length-set}
+use lib.ListN.{length, take, set, replicate, length-append, length-set}
 use lib.Seq.{take-suc-set, take-all, take-at, length-take-le}
 use Rattle.base.specs.Steps.{stateAfter, outputs}
 
@@ -32,6 +32,16 @@ module _ {S A : Type 0} (step : S → S × A) where
   pub after-keeps : (P : S → Type 0) → ((s : S) → P s → P (step s .0)) → (n : ℕ) {s : S} → P s → P (stateAfter step n s)
   after-keeps P keeps zero h = h
   after-keeps P keeps (suc n) {s} h = after-keeps P keeps n (keeps s h)
+
+  -- ---- a state that a step leaves as it is
+
+  pub same-state : (n : ℕ) {s : S} {v : A} → step s ≡ (s, v) → stateAfter step n s ≡ s
+  same-state zero e = refl
+  same-state (suc n) e = ap (λ (r : S × A). stateAfter step n (r .0)) e ∙ same-state n e
+
+  pub same-outputs : (n : ℕ) {s : S} {v : A} → step s ≡ (s, v) → outputs step n s ≡ replicate n v
+  same-outputs zero e = refl
+  same-outputs (suc n) {s} {v} e = ap (λ (r : S × A). r .1 ∷ outputs step n (r .0)) e ∙ ap (λ (l : List A). v ∷ l) (same-outputs n e)
 
   -- ---- a buffer that is filled
 

@@ -1,26 +1,18 @@
--- Steps that leave the state as it is; a chip that does not sound takes such.
+-- The steps of a chip that does not sound leave it as it is.
 -- Assumes nothing.
-use mathlib.Core.Path.{_≡_, refl, sym, ap, _∙_, subst}
+use mathlib.Core.Path.{_≡_, refl, sym, ap, _∙_}
 use mathlib.Core.Bool.{false}
-use mathlib.Core.List.{List, _∷_}
-use Prim.Native.Nat.{ℕ, zero, suc}
+use mathlib.Core.List.{List}
+use Prim.Native.Nat.{ℕ}
 use lib.IntN.{pos}
 use lib.ListN.{replicate}
 use Rattle.base.specs.Steps.{stateAfter, outputs}
+use Rattle.base.proofs.Steps.{same-state, same-outputs}
 use Rattle.speech.proofs.Moving.{advanced-silent}
 use Rattle.chip.specs.Types.{Moved, Chip, Stepped}
 use Rattle.chip.specs.Step.{sounded, steps, stepFault}
 use Rattle.chip.specs.Run.{sampleStep}
 use Rattle.chip.proofs.Stepping.{step-taken}
-
-module _ {S A : Type 0} (step : S → S × A) where
-  pub same-state : (n : ℕ) {s : S} {v : A} → step s ≡ (s, v) → stateAfter step n s ≡ s
-  same-state zero e = refl
-  same-state (suc n) e = ap (λ (r : S × A). stateAfter step n (r .0)) e ∙ same-state n e
-
-  pub same-outputs : (n : ℕ) {s : S} {v : A} → step s ≡ (s, v) → outputs step n s ≡ replicate n v
-  same-outputs zero e = refl
-  same-outputs (suc n) {s} {v} e = ap (λ (r : S × A). r .1 ∷ outputs step n (r .0)) e ∙ ap (λ (l : List A). v ∷ l) (same-outputs n e)
 
 module _ (image voice : List ℕ) (c : Chip) (h : stepFault image voice c ≡ 0) (off : c .control .clock .sounding ≡ false) where
   silent-step : sampleStep image voice c ≡ (c, pos 0)

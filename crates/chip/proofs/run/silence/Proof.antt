@@ -5,8 +5,7 @@ use Prim.Native.Nat.{_-_}
 use native.Mathlib.Omega.{arith}
 use lib.IntN.{ℤ, pos}
 use lib.ListN.{length}
-use Rattle.base.proofs.Steps.{Filled, filled-none, filled-more, filled-all}
-use Rattle.chip.proofs.Silent.{same-outputs}
+use Rattle.base.proofs.Steps.{same-outputs, Filled, filled-none, filled-more, filled-all}
 use Rattle.chip.proofs.run.silence.Statement.{statement}
 use Rattle.chip.proofs.run.silence.Tie as tie
 
