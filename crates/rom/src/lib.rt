@@ -2,5 +2,6 @@
 pub mod bits;
 pub mod frames;
 mod head;
+pub mod lent;
 pub mod phrases;
 pub mod reader;
