@@ -1,9 +1,15 @@
 // A reader that stays on a lent image and holds its bit position. A function over such a struct is thin, for its proof is a
 // walk by hand: the work is done by the functions of `bits` and `reader`.
 ghost use mathlib.Core.Path.{_≡_};
-ghost use Prim.Native.Nat.{_+_, _≤_, _^_};
+ghost use Prim.Native.Nat.{_+_, _-_, _≤_, _<_, _^_};
+ghost use lib.ListN.{length};
 ghost use Rattle.rom.specs.Bits.{field};
+ghost use Rattle.rom.specs.Reader.{frameAt, bitAfter};
 use crate::bits::field_at;
+use crate::head::Skipped;
+use crate::head::skip_frame;
+use crate::reader::Taken;
+use crate::reader::frame_at;
 
 pub struct Lent<'a> {
     pub image: &'a [u8],
@@ -19,4 +25,29 @@ pub fn next_field<'s, 'a>(r: &'s mut Lent<'a>, width: usize) -> u8
     let v = field_at(r.image, at, width);
     r.at = at + width;
     v
+}
+
+// The bit after the frame at bit `at`, or `at` itself where the bits end first.
+fn bit_after(s: &[u8], at: usize, pitch_bits: usize) -> usize
+    requires { ⌜ («pitch_bits» ≤ 8) × (at < 2 ^ 32 - 64) × (length (now s) < 2 ^ 32) ⌝ }
+    ensures { λ r. ⌜ r ≡ bitAfter at (frameAt «pitch_bits» (now (s .entry)) at) ⌝ }
+{
+    let skipped = skip_frame(s, at, pitch_bits);
+    let Skipped::Past(_, next) = skipped else {
+        return at;
+    };
+    next
+}
+
+// The frame at the position, which moves on past it where the frame is whole.
+pub fn next_frame<'s, 'a>(r: &'s mut Lent<'a>, pitch_bits: usize) -> Taken
+    requires { ⌜ («pitch_bits» ≤ 8) × (now r .at < 2 ^ 32 - 64) × (length (now (now r .image)) < 2 ^ 32) ⌝ }
+    ensures { λ t. ⌜ (t ≡ frameAt «pitch_bits» (now (now (r .entry) .image)) (now (r .entry) .at)) × (now (r .exit) .image ≡ now (r .entry) .image) × (now (r .exit) .at ≡ bitAfter (now (r .entry) .at) (frameAt «pitch_bits» (now (now (r .entry) .image)) (now (r .entry) .at))) ⌝ }
+{
+    let image = r.image;
+    let at = r.at;
+    let taken = frame_at(image, at, pitch_bits);
+    let next = bit_after(image, at, pitch_bits);
+    r.at = next;
+    taken
 }
