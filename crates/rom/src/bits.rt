@@ -42,7 +42,8 @@ fn word(a: u8, b: u8, c: u8, d: u8) -> u64
     16777216 * a as u64 + 65536 * b as u64 + 256 * c as u64 + d as u64
 }
 
-// The number in the 32 bits from byte n on.
+// The number in the 32 bits from byte n on. Four bytes that are all there are one load for the compiler; the walk spends its
+// time here.
 fn word_at(s: &[u8], n: usize) -> u64
     requires { ⌜ n ≤ 2 ^ 32 ⌝ }
     ensures { λ r. ⌜ r ≡ field (now (s .entry)) (8 * n) 32 ⌝ }

@@ -12,6 +12,7 @@ pub(crate) const SILENCE_CODE: u8 = 0;
 
 pub(crate) const STOP_CODE: u8 = 15;
 
+// What the kind of a frame is told by.
 pub(crate) struct Head {
     pub energy: u8,
     pub repeat: u8,
