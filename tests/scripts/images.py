@@ -1,0 +1,75 @@
+"""Frames as bits, and the images that hold them (document 01, "Frames")."""
+
+K_BITS = [5, 5, 4, 4, 4, 4, 4, 3, 3, 3]
+MOST_IMAGE_BYTES = 262144
+
+
+def bits(value, width):
+    return f'{value:0{width}b}'
+
+
+SILENCE, STOP = bits(0, 4), bits(15, 4)
+
+
+def repeat(energy, pitch):
+    return bits(energy, 4) + '1' + bits(pitch, 6)
+
+
+def unvoiced(energy, ks):
+    return bits(energy, 4) + '0' + bits(0, 6) + ''.join(map(bits, ks, K_BITS[:4]))
+
+
+def voiced(energy, pitch, ks):
+    return bits(energy, 4) + '0' + bits(pitch, 6) + ''.join(map(bits, ks, K_BITS))
+
+
+def pack(text, fill='0'):
+    """The bytes that begin with these bits; `fill` completes the last one."""
+    text += fill * (-len(text) % 8)
+    return bytes(int(text[i:i + 8], 2) for i in range(0, len(text), 8))
+
+
+def any_frame(pick):
+    """A random frame other than a stop."""
+    kind = pick.below(5)
+    energy, pitch = pick.between(1, 14), pick.edge(1, 63)
+    ks = [pick.edge(0, 2 ** width - 1) for width in K_BITS]
+    if kind == 0:
+        return SILENCE
+    if kind == 1:
+        return repeat(energy, pick.edge(0, 63))
+    if kind == 2:
+        return unvoiced(energy, ks[:4])
+    return voiced(energy, pitch, ks)
+
+
+def any_frames(pick, count):
+    return ''.join(any_frame(pick) for _ in range(count))
+
+
+def any_phrase(pick, most):
+    """A whole phrase of at most so many frames before its stop."""
+    return pack(any_frames(pick, pick.below(most + 1)) + STOP, pick.one_of('01'))
+
+
+def damaged(pick, data):
+    """The same bytes cut short, or with a bit turned, or both."""
+    data = bytearray(data)
+    if pick.chance(50) and data:
+        data[pick.below(len(data))] ^= 1 << pick.below(8)
+    if pick.chance(50):
+        del data[pick.below(len(data) + 1):]
+    return bytes(data)
+
+
+def any_image(pick, most=4):
+    """A phrase behind a few bytes, damaged or whole, or random bytes; now and then no byte at all."""
+    kind = pick.below(10)
+    if kind == 0:
+        return b''
+    if kind < 3:
+        return pick.bytes(pick.between(1, 60))
+    phrase = any_phrase(pick, most)
+    if kind < 6:
+        phrase = damaged(pick, phrase)
+    return pick.bytes(pick.below(4)) + phrase + pick.bytes(pick.below(4))

@@ -1,0 +1,157 @@
+"""States of the chip for S records: valid ones, and ones that break a range (document 01, "State ranges")."""
+
+IDLE, ROM, WAITING, EXTERNAL = range(4)
+FIFO_BYTES = 16
+LAST_POSITION = 2097152
+
+FIFO = [f'fifo {i}' for i in range(1, FIFO_BYTES + 1)]
+
+
+def values(whose):
+    return [f'{whose} energy', f'{whose} pitch'] + [f'{whose} K{i}' for i in range(1, 11)]
+
+
+CURRENT, TARGET = values('current'), values('target')
+MEMORY = [f'memory {i}' for i in range(1, 11)]
+SOUND = ['sample', 'interval', 'noise', 'place'] + CURRENT + TARGET + MEMORY
+# the order of the trace format's table
+FIELDS = ['mode', 'position', 'nibble', 'pending', 'data', 'interrupt', 'level', 'used'] + FIFO + ['sounding'] + SOUND
+
+# the ranges that hold in every mode
+RANGES = {'position': (0, LAST_POSITION), 'nibble': (0, 4), 'sample': (0, 24), 'interval': (0, 7), 'noise': (1, 8191), 'place': (0, 1022)}
+for name in CURRENT + TARGET:
+    RANGES[name] = (-512, 511) if 'K' in name else (0, 1023)
+for name in MEMORY:
+    RANGES[name] = (-8192, 8191)
+
+# what an S record may hold
+FORMAT = {name: (0, 32767) for name in ['noise', 'place'] + CURRENT + TARGET}
+FORMAT.update({name: (-32768, 32767) for name in CURRENT[2:] + TARGET[2:] + MEMORY})
+FORMAT.update({name: (0, 255) for name in ['nibble', 'data', 'level', 'used', 'sample', 'interval'] + FIFO})
+FORMAT.update({name: (0, 1) for name in ['pending', 'interrupt', 'sounding']})
+FORMAT.update({'mode': (0, 3), 'position': (0, 2 ** 32 - 1)})
+
+LEVELS = {IDLE: (0, 0), ROM: (0, 0), WAITING: (0, 8), EXTERNAL: (1, FIFO_BYTES)}
+
+
+def numbers(fields):
+    """The 63 numbers of a state."""
+    assert all(FORMAT[name][0] <= fields[name] <= FORMAT[name][1] for name in FIELDS), fields
+    return [fields[name] for name in FIELDS]
+
+
+def powered_up(**changes):
+    return {**dict.fromkeys(FIELDS, 0), 'noise': 8191, **changes}
+
+
+def held(level, first=1):
+    """A FIFO that holds so many bytes, each another one."""
+    return {'level': level, **{FIFO[i]: (first + 37 * i) % 255 + 1 for i in range(min(level, FIFO_BYTES))}}
+
+
+def sounding(**changes):
+    """A sound in the middle of a frame, each field with a number of its own."""
+    fields = {'sounding': 1, 'sample': 7, 'interval': 3, 'noise': 2730, 'place': 9}
+    fields.update({name: 10 * i + 31 for i, name in enumerate(CURRENT)})
+    fields.update({name: 17 * i + 40 for i, name in enumerate(TARGET)})
+    fields.update({name: 100 - 23 * i for i, name in enumerate(MEMORY)})
+    return {**fields, **changes}
+
+
+def in_mode(mode, **changes):
+    """A valid state in a mode, sounding."""
+    fifo = {WAITING: held(4), EXTERNAL: held(11)}.get(mode, {})
+    return powered_up(mode=mode, **{**fifo, **sounding(), **changes})
+
+
+# ---- on and outside the edges
+
+def range_edges():
+    """Each range's two ends, and one outside them where an S record can say so."""
+    for name, (low, high) in RANGES.items():
+        for value in (low - 1, low, high, high + 1):
+            if FORMAT[name][0] <= value <= FORMAT[name][1]:
+                yield in_mode(ROM, **{name: value})
+    # the ends of the format, which the chip's types must hold
+    yield in_mode(IDLE, **{name: FORMAT[name][0] for name in RANGES})
+    yield in_mode(IDLE, **{name: FORMAT[name][1] for name in RANGES})
+
+
+def level_edges():
+    """FIFO levels in each mode: 0 in idle and ROM speech, 0..8 in waiting, 1..16 in external speech."""
+    for mode in (IDLE, ROM, WAITING, EXTERNAL):
+        for level in (0, 1, 8, 9, 16, 17, 255):
+            yield in_mode(mode, **{**dict.fromkeys(FIFO, 0), **held(level)})
+
+
+def used_edges():
+    """Used bits: 0..7 in external speech, else 0."""
+    for mode in (IDLE, ROM, WAITING, EXTERNAL):
+        for used in (1, 7, 8, 255):
+            yield in_mode(mode, used=used)
+
+
+def unheld_edges():
+    """A byte that is not 0 right behind the held ones, and at the FIFO's end."""
+    for level in range(1, FIFO_BYTES):
+        yield in_mode(EXTERNAL, **{**dict.fromkeys(FIFO, 0), **held(level), FIFO[level]: 1})
+    for mode, level in ((IDLE, 0), (ROM, 0), (WAITING, 8), (EXTERNAL, 8)):
+        yield in_mode(mode, **{**dict.fromkeys(FIFO, 0), **held(level), FIFO[15]: 128})
+
+
+def silent_edges():
+    """Not sounding: at rest but for one field; and a speaking mode. Sounding at rest is valid in every mode."""
+    for name in SOUND:
+        yield powered_up(**{name: 8190 if name == 'noise' else 1})
+    for mode in (IDLE, ROM, WAITING, EXTERNAL):
+        fifo = held(1) if mode == EXTERNAL else {}
+        yield powered_up(mode=mode, **fifo)
+        yield powered_up(mode=mode, sounding=1, **fifo)
+
+
+def data_edges():
+    """Data byte and pending in each mode, with and without the interrupt."""
+    for mode in (IDLE, ROM, WAITING, EXTERNAL):
+        for pending, data in ((0, 1), (0, 255), (1, 0), (1, 255)):
+            yield in_mode(mode, pending=pending, data=data, interrupt=data & 1)
+
+
+EDGES = [list(edges()) for edges in (range_edges, level_edges, used_edges, unheld_edges, silent_edges, data_edges)]
+
+
+# ---- random states
+
+def any_sound(pick):
+    fields = {name: pick.edge(*RANGES[name]) for name in SOUND}
+    # small currents too, else the filter is always at its bounds
+    if pick.chance(50):
+        fields.update({name: pick.between(-200, 200) for name in CURRENT[2:] + MEMORY})
+    # often right before a frame boundary, where most happens
+    if pick.chance(40):
+        fields.update(pick.one_of([{'sample': 0, 'interval': 0}, {'sample': 24, 'interval': 7}]))
+    return {'sounding': 1, **fields}
+
+
+def any_valid(pick, positions=(0, LAST_POSITION)):
+    """A valid state, most often one that no list of calls leads to."""
+    mode = pick.below(4)
+    level = pick.edge(*LEVELS[mode])
+    fields = powered_up(mode=mode, position=pick.edge(*positions), nibble=pick.below(5), interrupt=pick.below(2), level=level)
+    fields.update({FIFO[i]: pick.edge(0, 255) for i in range(level)})
+    if mode == EXTERNAL:
+        fields['used'] = pick.edge(0, 7)
+    if mode == IDLE and pick.chance(40):
+        fields.update({'pending': 1, 'data': pick.below(256)})
+    if mode in (ROM, EXTERNAL) or pick.chance(60):
+        fields.update(any_sound(pick))
+    return fields
+
+
+def any_broken(pick):
+    """A valid state with one field replaced by a number that the format allows, most often just outside its range."""
+    fields = any_valid(pick)
+    name = pick.one_of(FIELDS)
+    low, high = RANGES.get(name, FORMAT[name])
+    value = pick.one_of([low - 1, high + 1, FORMAT[name][0], FORMAT[name][1], pick.between(*FORMAT[name])])
+    fields[name] = min(max(value, FORMAT[name][0]), FORMAT[name][1])
+    return fields

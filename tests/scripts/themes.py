@@ -1,0 +1,212 @@
+"""What a random script is made of: one function for each theme, from a Pick to the bytes of some records."""
+import images
+import states
+import voices
+from script import *
+from states import LAST_POSITION
+
+
+# ---- small parts that several themes use
+
+def some_calls(pick, most=6):
+    """A few calls of any kind that leads on from here."""
+    out = b''
+    for _ in range(pick.between(1, most)):
+        kind = pick.below(8)
+        if kind == 0:
+            out += read()
+        elif kind < 3:
+            out += step(pick.between(1, 3))
+        elif kind < 5:
+            out += run(pick.one_of([0, 1, 2, 24, 25, 26, 199, 200, 201, pick.below(450)]))
+        elif kind == 5:
+            out += write(pick.one_of(COMMANDS) + pick.below(16) + 128 * pick.below(2))
+        else:
+            out += write(pick.below(256))
+    return out
+
+
+def good_image(pick):
+    return image(images.any_image(pick) or b'\xff')
+
+
+def good_voice(pick):
+    return voice(voices.any_voice(pick))
+
+
+def speak_from(pick, address):
+    """The five loads of an address, any top bits, and Speak."""
+    nibbles = [address >> 4 * i & 15 for i in range(5)]
+    # of the fifth only the two low bits count
+    nibbles[4] |= 4 * pick.below(4)
+    return write(*[load(nibble) + 128 * pick.below(2) for nibble in nibbles], SPEAK + pick.below(16) + 128 * pick.below(2))
+
+
+# ---- the themes
+
+# Walks from, and frames at, random addresses and the addresses around the image's end.
+def walks_and_frames(pick):
+    data = images.any_image(pick, 8)
+    end = 8 * len(data)
+    out = image(data)
+    for _ in range(pick.between(1, 8)):
+        out += frame_at(pick.one_of([pick.below(end + 20), max(end - pick.below(55), 0), end, 2 ** 32 - 1, 2 ** 21 + pick.below(9)]))
+    for _ in range(pick.between(1, 4)):
+        out += walk(pick.one_of([0, pick.below(len(data) + 2), len(data), 2 ** 29, 2 ** 32 - 1]))
+    return out
+
+
+# Phrases at random addresses of one image, some of them damaged, found by the walk and spoken by the chip.
+def phrases_at_addresses(pick):
+    data, starts = pick.bytes(pick.below(6)), []
+    for _ in range(pick.between(1, 4)):
+        starts.append(len(data))
+        phrase = images.any_phrase(pick, 5)
+        data += images.damaged(pick, phrase) if pick.chance(40) else phrase
+    data = data or b'\xff'
+    out = image(data) + good_voice(pick) + walk(*starts)
+    for start in starts:
+        out += power_up() + speak_from(pick, start) + step() + run(pick.one_of([199, 198, 200])) + some_calls(pick)
+    return out
+
+
+# A voice file that is bad, or on the edge of it, and the calls that take it.
+def bad_voices(pick):
+    out = good_image(pick) + state_of(states.any_valid(pick, (0, 200)))
+    for _ in range(pick.between(1, 4)):
+        out += voice(voices.any_bad(pick)) + pick.one_of([step(), run(0), run(3), read(), step() + run(200)])
+    return out + good_voice(pick)
+
+
+def state_of(fields):
+    return state(states.numbers(fields))
+
+
+# Commands one after another, whatever they do, over an image with something to read, branch to and speak.
+def commands(pick):
+    out = good_image(pick) + good_voice(pick) + power_up()
+    for _ in range(pick.between(4, 30)):
+        command = pick.one_of(COMMANDS[:6] + pick.one_of([[], [SPEAK_EXTERNAL], [RESET]]))
+        out += write(command + pick.below(16) + 128 * pick.below(2))
+        if pick.chance(30):
+            out += pick.one_of([read(), read(2), step(), run(200), run(401)])
+    return out
+
+
+# Loads, reads and branches from positions near the end of the image and at edges of its bytes.
+def addresses(pick):
+    data = images.any_image(pick) or b'\0'
+    end = 8 * len(data)
+    out = image(data)
+    for _ in range(pick.between(1, 4)):
+        position = pick.one_of([pick.below(end + 9), max(end - pick.between(0, 17), 0), end, LAST_POSITION, pick.below(LAST_POSITION)])
+        out += state_of(states.powered_up(position=position, nibble=pick.below(5), interrupt=pick.below(2)))
+        for _ in range(pick.between(1, 8)):
+            out += write(pick.one_of([READ_BYTE, READ_AND_BRANCH, load(pick.below(16)), NOTHING, SPEAK_EXTERNAL]))
+            out += read(pick.below(2))
+    return out
+
+
+# A phrase spoken from ROM to its end or part of it, with writes that have to wait and a Reset at times.
+def rom_speech(pick):
+    before = pick.bytes(pick.below(4))
+    data = before + images.pack(images.any_frames(pick, pick.below(6)) + (images.STOP if pick.chance(80) else ''))
+    out = image(data or b'\0') + good_voice(pick) + power_up() + speak_from(pick, len(before))
+    for _ in range(pick.between(1, 12)):
+        out += pick.one_of([step(), step(), read(), run(pick.one_of([25, 175, 198, 199, 200])), run(pick.below(420)), write(pick.below(256))])
+    return out + pick.one_of([b'', write(RESET) + step(), run(1200)])
+
+
+# External speech: bytes come faster than they are taken, or slower; cut anywhere; with stops inside.
+def external_speech(pick):
+    text = ''
+    for _ in range(pick.between(1, 3)):
+        text += images.any_frames(pick, pick.below(6)) + (images.STOP if pick.chance(60) else '')
+    # too fast: hardly a step between bytes; too slow: more samples than the bytes are worth
+    often, most = pick.one_of([(2, 10), (15, 260), (40, 120), (50, 500)])
+    out = good_image(pick) + good_voice(pick) + power_up() + write(SPEAK_EXTERNAL)
+    for byte in images.pack(text, pick.one_of('01')) + pick.bytes(pick.below(12)):
+        out += write(byte)
+        if pick.chance(often):
+            out += pick.one_of([step(), read(), run(pick.below(most + 1))])
+    return out + some_calls(pick, 8) + pick.one_of([b'', run(1000), run(4000)])
+
+
+# Valid states that no list of calls leads to, and calls on them.
+def unreachable_states(pick):
+    out = good_image(pick) + (good_voice(pick) if pick.chance(40) else b'')
+    for _ in range(pick.between(1, 4)):
+        out += state_of(states.any_valid(pick, (0, 300))) + pick.one_of([step(2), run(1), run(26), write(pick.below(256)), read()]) + some_calls(pick)
+    return out
+
+
+# States with a field out of its range, each taken by every call that takes a state.
+def broken_states(pick):
+    out = good_image(pick)
+    for _ in range(pick.between(1, 4)):
+        broken = states.any_broken(pick) if pick.chance(50) else pick.one_of(pick.one_of(states.EDGES))
+        out += state_of(broken) + pick.one_of([read(), step(), run(0), run(7), write(pick.below(256)), write(RESET), read() + step() + write(0)])
+    return out
+
+
+# The image changes between calls: shorter, longer, other bytes, none.
+def changing_images(pick):
+    data = images.any_phrase(pick, 6)
+    out = image(data) + good_voice(pick) + power_up() + speak_from(pick, 0)
+    for _ in range(pick.between(2, 7)):
+        other = pick.one_of([data[:pick.below(len(data) + 1)], data + pick.bytes(pick.between(1, 9)), images.any_image(pick), b'', data[:1]])
+        out += pick.one_of([run(199), run(200), step(), run(pick.below(250))]) + image(other) + some_calls(pick, 3)
+        if pick.chance(30):
+            out += image(data) + write(SPEAK)
+    return out
+
+
+# Several faults at once, of which the first in the order of checks is answered.
+def several_faults(pick):
+    out = b''
+    for _ in range(pick.between(1, 4)):
+        out += image(pick.one_of([b'', b'\xff', images.any_image(pick)]))
+        out += voice(pick.one_of([b'', voices.any_voice(pick), voices.any_bad(pick)]))
+        out += state_of(states.any_broken(pick) if pick.chance(60) else states.any_valid(pick, (0, 100)))
+        out += pick.one_of([step(), run(0), run(5), write(pick.below(256)), read() + walk(0, 1) + frame_at(0, 8)])
+    return out
+
+
+# Long runs: a phrase, silence after it, and the longest run there may be.
+def long_runs(pick):
+    data = images.pack(images.any_frames(pick, pick.between(5, 60)) + images.STOP)
+    out = image(data) + good_voice(pick) + power_up() + write(SPEAK)
+    for _ in range(pick.between(1, 3)):
+        out += run(pick.one_of([LONGEST_RUN, pick.below(LONGEST_RUN + 1), 4000])) + read()
+    return out
+
+
+# Images of 262,144 bytes and one more, read, branched, walked and spoken at their end and across 16,384-byte chips.
+def largest_images(pick):
+    size = images.MOST_IMAGE_BYTES + pick.below(2) - pick.below(2)
+    tail = images.any_phrase(pick, 4)
+    data = pick.bytes(size - len(tail)) + tail
+    out = image(data) + good_voice(pick)
+    for _ in range(pick.between(20, 60)):
+        address = pick.one_of([size - len(tail), size - pick.between(1, 40), 16384 * pick.between(1, 15) - pick.below(3), pick.below(size)])
+        out += power_up() + load_address(address)
+        out += pick.one_of([write(READ_BYTE, READ_BYTE) + read(), write(READ_AND_BRANCH, READ_BYTE), write(SPEAK) + step() + run(200, 200) + read()])
+        out += walk(address) + frame_at(min(8 * address + pick.below(60), 2 ** 32 - 1))
+    return out
+
+
+ALL = [walks_and_frames, phrases_at_addresses, bad_voices, commands, addresses, rom_speech, external_speech, unreachable_states,
+       broken_states, changing_images, several_faults, long_runs]
+
+
+def any_script(pick, size):
+    """A script of about so many bytes. Some end badly: cut anywhere, an unknown letter, a run too long."""
+    out = largest_images(pick) if pick.chance(4) else b''
+    size += len(out)
+    while len(out) < size:
+        out += pick.one_of(ALL)(pick)
+    if pick.chance(10):
+        out += pick.one_of([b'x', b'\0', b'i', run(LONGEST_RUN + 1), run(2 ** 32 - 1), image(b'\xff')[:3], voice(bytes(9))[:-1]]) + step()
+    if pick.chance(10):
+        out = out[:pick.below(len(out) + 1)]
+    return out[:MOST_SCRIPT_BYTES]
