@@ -55,7 +55,7 @@ def numbers_voices():
     shortest, longest = voices.plain(1), voices.plain(64)
     under, over = shortest[:-1], longest + b'\0'
     assert [len(data) for data in (under, shortest, longest, over)] == [498, 499, 562, 563]
-    return b''.join(voice(data) + step() for data in (under, shortest, longest, over))
+    return power_up() + b''.join(voice(data) + step() for data in (under, shortest, longest, over))
 
 
 # "Image of 262,144 bytes is valid, 262,145 is IMAGE". The longest image also has what is near the last position and across the
@@ -208,13 +208,15 @@ def statuses():
     return out
 
 
-# The ninth byte starts the sound from rest, also while the frame of a stop still sounds; the tenth starts nothing.
+# The ninth byte starts the sound from rest, also while the frame of a stop still sounds; the tenth starts nothing, nor does a
+# byte that is the ninth held in external speech.
 def ninth_byte():
     out = image(b'\xff') + voice(voices.soft())
     speech = pack(voiced(9, 20, KS) + unvoiced(7, OTHER_KS[:4]) + STOP)
     out += power_up() + write(load(1), SPEAK_EXTERNAL, *speech[:8]) + step() + run(3) + write(speech[8]) + read() + step(2) + write(*speech[9:]) + read()
     out += run(199) + step() + run(199) + step() + write(SPEAK_EXTERNAL) + run(5) + read()
-    return out + write(*speech[:8]) + step(2) + write(speech[8]) + step(2) + read()
+    out += write(*speech[:8]) + step(2) + write(speech[8]) + step(2) + read()
+    return out + state_of(states.in_mode(EXTERNAL, **{**dict.fromkeys(FIFO, 0), **states.held(8)})) + write(0x55, 0xAA) + read()
 
 
 # FIFO frames that end with the last held bit, before it and after it, from each used bit; what the interrupt then is.
