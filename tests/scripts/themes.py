@@ -192,7 +192,10 @@ def largest_images(pick):
         out += power_up() + load_address(address)
         out += pick.one_of([write(READ_BYTE, READ_BYTE) + read(), write(READ_AND_BRANCH, READ_BYTE), write(SPEAK) + step() + run(200, 200) + read()])
         out += walk(address) + frame_at(min(8 * address + pick.below(60), 2 ** 32 - 1))
-    return out
+    # the image changes under a speaking chip, to one of the other kind and to a short one
+    other = bytes(2 * images.MOST_IMAGE_BYTES + 1 - size)
+    out += power_up() + speak_from(pick, pick.below(size)) + run(pick.below(400)) + image(other) + some_calls(pick) + walk(0)
+    return out + good_image(pick) + some_calls(pick)
 
 
 ALL = [walks_and_frames, phrases_at_addresses, bad_voices, commands, addresses, rom_speech, external_speech, unreachable_states,
