@@ -18,7 +18,8 @@ SOUND = ['sample', 'interval', 'noise', 'place'] + CURRENT + TARGET + MEMORY
 FIELDS = ['mode', 'position', 'nibble', 'pending', 'data', 'interrupt', 'level', 'used'] + FIFO + ['sounding'] + SOUND
 
 # the ranges that hold in every mode
-RANGES = {'position': (0, LAST_POSITION), 'nibble': (0, 4), 'sample': (0, 24), 'interval': (0, 7), 'noise': (1, 8191), 'place': (0, 1022)}
+RANGES = {'position': (0, LAST_POSITION), 'nibble': (0, 4), 'sample': (0, 24), 'interval': (0, 7), 'noise': (1, 8191),
+          'place': (0, 1022)}
 for name in CURRENT + TARGET:
     RANGES[name] = (-512, 511) if 'K' in name else (0, 1023)
 for name in MEMORY:

@@ -50,7 +50,8 @@ def walks_and_frames(pick):
     end = 8 * len(data)
     out = image(data)
     for _ in range(pick.between(1, 8)):
-        out += frame_at(pick.one_of([pick.below(end + 20), max(end - pick.below(55), 0), end, 2 ** 32 - 1, 2 ** 21 + pick.below(9)]))
+        near, far = max(end - pick.below(55), 0), 2 ** 21 + pick.below(9)
+        out += frame_at(pick.one_of([pick.below(end + 20), near, end, far, 2 ** 32 - 1]))
     for _ in range(pick.between(1, 4)):
         out += walk(pick.one_of([0, pick.below(len(data) + 2), len(data), 2 ** 29, 2 ** 32 - 1]))
     return out
@@ -99,7 +100,8 @@ def addresses(pick):
     end = 8 * len(data)
     out = image(data)
     for _ in range(pick.between(1, 4)):
-        position = pick.one_of([pick.below(end + 9), max(end - pick.between(0, 17), 0), end, LAST_POSITION, pick.below(LAST_POSITION)])
+        near, far = max(end - pick.below(18), 0), pick.below(LAST_POSITION)
+        position = pick.one_of([pick.below(end + 9), near, end, far, LAST_POSITION])
         out += state_of(states.powered_up(position=position, nibble=pick.below(5), interrupt=pick.below(2)))
         for _ in range(pick.between(1, 8)):
             out += write(pick.one_of([READ_BYTE, READ_AND_BRANCH, load(pick.below(16)), NOTHING, SPEAK_EXTERNAL]))
@@ -113,7 +115,8 @@ def rom_speech(pick):
     data = before + images.pack(images.any_frames(pick, pick.below(6)) + (images.STOP if pick.chance(80) else ''))
     out = image(data or b'\0') + good_voice(pick) + power_up() + speak_from(pick, len(before))
     for _ in range(pick.between(1, 12)):
-        out += pick.one_of([step(), step(), read(), run(pick.one_of([25, 175, 198, 199, 200])), run(pick.below(420)), write(pick.below(256))])
+        length = pick.one_of([25, 175, 198, 199, 200, pick.below(420)])
+        out += pick.one_of([step(), step(), read(), run(length), run(length), write(pick.below(256))])
     return out + pick.one_of([b'', write(RESET) + step(), run(1200)])
 
 
@@ -136,7 +139,8 @@ def external_speech(pick):
 def unreachable_states(pick):
     out = good_image(pick) + (good_voice(pick) if pick.chance(40) else b'')
     for _ in range(pick.between(1, 4)):
-        out += state_of(states.any_valid(pick, (0, 300))) + pick.one_of([step(2), run(1), run(26), write(pick.below(256)), read()]) + some_calls(pick)
+        out += state_of(states.any_valid(pick, (0, 300)))
+        out += pick.one_of([step(2), run(1), run(26), write(pick.below(256)), read()]) + some_calls(pick)
     return out
 
 
@@ -145,7 +149,8 @@ def broken_states(pick):
     out = good_image(pick)
     for _ in range(pick.between(1, 4)):
         broken = states.any_broken(pick) if pick.chance(50) else pick.one_of(pick.one_of(states.EDGES))
-        out += state_of(broken) + pick.one_of([read(), step(), run(0), run(7), write(pick.below(256)), write(RESET), read() + step() + write(0)])
+        out += state_of(broken)
+        out += pick.one_of([read(), step(), run(0), run(7), write(pick.below(256)), write(RESET), read() + step() + write(0)])
     return out
 
 
@@ -154,8 +159,9 @@ def changing_images(pick):
     data = images.any_phrase(pick, 6)
     out = image(data) + good_voice(pick) + power_up() + speak_from(pick, 0)
     for _ in range(pick.between(2, 7)):
-        other = pick.one_of([data[:pick.below(len(data) + 1)], data + pick.bytes(pick.between(1, 9)), images.any_image(pick), b'', data[:1]])
-        out += pick.one_of([run(199), run(200), step(), run(pick.below(250))]) + image(other) + some_calls(pick, 3)
+        shorter, longer = data[:pick.below(len(data) + 1)], data + pick.bytes(pick.between(1, 9))
+        out += pick.one_of([run(199), run(200), step(), run(pick.below(250))])
+        out += image(pick.one_of([shorter, longer, images.any_image(pick), b'', data[:1]])) + some_calls(pick, 3)
         if pick.chance(30):
             out += image(data) + write(SPEAK)
     return out
@@ -188,9 +194,11 @@ def largest_images(pick):
     data = pick.bytes(size - len(tail)) + tail
     out = image(data) + good_voice(pick)
     for _ in range(pick.between(20, 60)):
-        address = pick.one_of([size - len(tail), size - pick.between(1, 40), 16384 * pick.between(1, 15) - pick.below(3), pick.below(size)])
+        near, across = size - pick.between(1, 40), 16384 * pick.between(1, 15) - pick.below(3)
+        address = pick.one_of([size - len(tail), near, across, pick.below(size)])
+        speech = write(SPEAK) + step() + run(200, 200) + read()
         out += power_up() + load_address(address)
-        out += pick.one_of([write(READ_BYTE, READ_BYTE) + read(), write(READ_AND_BRANCH, READ_BYTE), write(SPEAK) + step() + run(200, 200) + read()])
+        out += pick.one_of([write(READ_BYTE, READ_BYTE) + read(), write(READ_AND_BRANCH, READ_BYTE), speech])
         out += walk(address) + frame_at(min(8 * address + pick.below(60), 2 ** 32 - 1))
     # the image changes under a speaking chip, to one of the other kind and to a short one
     other = bytes(2 * images.MOST_IMAGE_BYTES + 1 - size)
@@ -209,7 +217,8 @@ def any_script(pick, size):
     while len(out) < size:
         out += pick.one_of(ALL)(pick)
     if pick.chance(10):
-        out += pick.one_of([b'x', b'\0', b'i', run(LONGEST_RUN + 1), run(2 ** 32 - 1), image(b'\xff')[:3], voice(bytes(9))[:-1]]) + step()
+        too_long, cut = [run(LONGEST_RUN + 1), run(2 ** 32 - 1)], [image(b'\xff')[:3], voice(bytes(9))[:-1]]
+        out += pick.one_of([b'x', b'\0', b'i'] + too_long + cut) + step()
     if pick.chance(10):
         out = out[:pick.below(len(out) + 1)]
     return out[:MOST_SCRIPT_BYTES]

@@ -78,7 +78,8 @@ def bad_versions(data):
 
 def edge_values(data):
     """VOICE VALUE: each table's ends, inside and outside by one, at its first, second and last place."""
-    for table, last, low, high in ((ENERGY, ENERGIES - 1, 0, 1023), (PITCH, PITCHES - 1, 1, 1023), (K, K_VALUES - 1, -512, 511)):
+    tables = (ENERGY, ENERGIES - 1, 0, 1023), (PITCH, PITCHES - 1, 1, 1023), (K, K_VALUES - 1, -512, 511)
+    for table, last, low, high in tables:
         for index in (0, 1, last):
             for value in (low - 1, low, high, high + 1):
                 yield with_value(data, table, index, value)
