@@ -23,11 +23,12 @@ def state_edges():
     return out
 
 
-# Voice file: each fault and each edge of one, in a short and in a long file.
+# Voice file: each fault and each edge of one, in a short and in a long file; for each number a step and runs that it refuses.
 def voice_faults():
-    out = b''
+    out = image(b'\x00\xff') + power_up() + write(SPEAK)
     for fault in voices.FAULTS + [voices.two_faults]:
-        out += b''.join(voice(data) for data in fault(voices.plain(3)))
+        files = list(fault(voices.plain(3)))
+        out += b''.join(voice(data) for data in files) + voice(files[0]) + step() + run(0, 2)
     out += b''.join(voice(data) for data in voices.edge_counts(voices.plain(64)))
     # a valid file is taken whatever its pulse bytes are
     return out + voice(voices.plain(3)[:-3] + b'\x80\x7f\xff')
@@ -51,10 +52,9 @@ def longest_run():
 
 # numbers_nine_ff leads on from numbers_status; the others begin with what they need
 TOPICS = [numbers_walks, numbers_addresses, numbers_status, numbers_nine_ff, numbers_nine_00, numbers_seventeenth,
-          numbers_voices,
-          order_of_checks, frames_at_bits, walks, loads, restarts, read_bytes, every_command, statuses, ninth_byte, fifo_ends,
-          interrupts, external_paces, spoken_kinds, rom_ends, image_changes, boundaries, interpolations, excitations, filters,
-          state_edges, voice_faults, some_of_each_theme, longest_run, numbers_images]
+          numbers_voices, order_of_checks, frames_at_bits, walks, loads, restarts, read_bytes, every_command, statuses,
+          ninth_byte, fifo_ends, interrupts, external_paces, spoken_kinds, rom_ends, image_changes, boundaries, interpolations,
+          excitations, filters, state_edges, voice_faults, some_of_each_theme, longest_run, numbers_images]
 
 
 def stored_script():
