@@ -96,6 +96,8 @@ def unheld_edges():
     """A byte that is not 0 right behind the held ones, and at the FIFO's end."""
     for level in range(1, FIFO_BYTES):
         yield in_mode(EXTERNAL, **{**dict.fromkeys(FIFO, 0), **held(level), FIFO[level]: 1})
+    for mode in (IDLE, ROM, WAITING):
+        yield in_mode(mode, **{**dict.fromkeys(FIFO, 0), 'level': 0, FIFO[0]: 1})
     for mode, level in ((IDLE, 0), (ROM, 0), (WAITING, 8), (EXTERNAL, 8)):
         yield in_mode(mode, **{**dict.fromkeys(FIFO, 0), **held(level), FIFO[15]: 128})
 
