@@ -1,7 +1,6 @@
 """Cases for document 01's "Refusal numbers", "ROM" and the bits of "Frames"."""
-import states
 import voices
-from chips import KINDS, KS, OTHER_KS, chip, external, in_mode, silent
+from chips import KINDS, KS, OTHER_KS, external, in_mode, silent
 from images import SILENCE, STOP, pack, repeat, unvoiced, voiced
 from script import *
 from states import EXTERNAL, IDLE, ROM, WAITING
