@@ -51,8 +51,7 @@ impl Chip {
         Chip { control, sound }
     }
 
-    // A step for each element, once the checks have passed. Silence and what is left of an interval are
-    // written at once.
+    // A step for each element, once the checks have passed. What is left of an interval is played at once.
     fn fill(self, image: &[u8], voice: &[u8], out: &mut [i16]) -> Chip
         requires { ⌜ stepFault (now image) (now voice) self ≡ 0 ⌝ }
         ensures { λ r. ⌜ r ≡ stateAfter (sampleStep (now (image .entry)) (now (voice .entry))) (length (now (out .entry))) self ⌝ }
@@ -62,13 +61,8 @@ impl Chip {
         let mut i = 0;
         while i < out.len() {
             let clock = chip.control.clock;
-            let sounding = clock.sounding;
             let left = clock.left_of_interval() as usize;
-            if !sounding {
-                let end = out.len();
-                silence(&mut out[i..end]);
-                i = end;
-            } else if left == 0 {
+            if left == 0 {
                 let stepped = chip.take_step(image, voice);
                 let next = stepped.chip;
                 let sample = stepped.sample;
@@ -85,6 +79,21 @@ impl Chip {
         chip
     }
 
+    // The same. A chip that does not sound stays silent.
+    fn sound_or_silence(self, image: &[u8], voice: &[u8], out: &mut [i16]) -> Chip
+        requires { ⌜ stepFault (now image) (now voice) self ≡ 0 ⌝ }
+        ensures { λ r. ⌜ r ≡ stateAfter (sampleStep (now (image .entry)) (now (voice .entry))) (length (now (out .entry))) self ⌝ }
+        ensures { λ r. ⌜ now (out .exit) ≡ outputs (sampleStep (now (image .entry)) (now (voice .entry))) (length (now (out .entry))) self ⌝ }
+    {
+        let clock = self.control.clock;
+        if clock.sounding {
+            self.fill(image, voice, out)
+        } else {
+            silence(out);
+            self
+        }
+    }
+
     // Operation: a run.
     pub fn run(self, image: &[u8], voice: &[u8], out: &mut [i16]) -> Ran
         ensures { λ r. ⌜ r ≡ runOf (now (image .entry)) (now (voice .entry)) self (length (now (out .entry))) ⌝ }
@@ -97,7 +106,7 @@ impl Chip {
                 refusal: fault,
             };
         }
-        let chip = self.fill(image, voice, out);
+        let chip = self.sound_or_silence(image, voice, out);
         Ran {
             chip,
             refusal: TAKEN,

@@ -4,7 +4,6 @@ use borrow.Author.Needs.{needs}
 use mathlib.Core.Path.{_≡_, _∙_}
 use Prim.Native.Nat.{_+_, _-_, _≤_}
 use native.Mathlib.Omega.{arith}
-use borrow.Author.Tests.{not-true}
 use borrow.Rule.Slice.PartMut.{midOf, mid-len}
 use lib.ListN.{length}
 use denote.Ref.{now}
@@ -17,7 +16,6 @@ use Rattle.chip.proofs.Ranges.{valid-clock}
 use Rattle.chip.proofs.Stepping.{passed, sample-step-is}
 use Rattle.chip.proofs.StepsValid.{goes-on}
 use Rattle.chip.proofs.Playing.{left-few, played}
-use Rattle.chip.proofs.Silent.{silent-state, silent-outputs}
 use Rattle.chip.proofs.state.Chip.fill.Statement.{statement}
 use Rattle.chip.proofs.state.Chip.fill.Tie as tie
 
@@ -33,39 +31,26 @@ left-of-interval-requires c κs =
     let l = c .before .before .loop in
     valid-clock (l .chip) (passed _ _ (l .chip) (l .inv .holds) .chip-valid) .0
 
--- a chip that does not sound: silence in what is left of the buffer
 loop-again : tie.Need-loop-again Inv-loop μ-loop
 loop-again c =
     let a = c .before .before .before .before .before .before .before .before .before .before .args in
     let l = c .before .before .before .before .before .before .before .loop in
-    let off = not-true _ (c .before .before .before .if1 .taken) in
-    let h = l .inv .holds in
-    let n = length (midOf (l .i) (length (l .out) - l .i) (l .out)) in
-    filled-part _ _ _ (l .inv) (length (l .out)) (omega (arith, l .inv .within, l .inv .size)) (omega (arith, l .inv .size))
-    (silent-state (now (a .image)) (now (a .voice)) (l .chip) h off n)
-    (c .before .silence .ensures ∙ silent-outputs (now (a .image)) (now (a .voice)) (l .chip) h off n) h
-
--- a step
-loop-again-2 : tie.Need-loop-again-2 Inv-loop μ-loop
-loop-again-2 c =
-    let a = c .before .before .before .before .before .before .before .before .before .before .before .args in
-    let l = c .before .before .before .before .before .before .before .before .loop in
     let s = c .before .before .take-step .ensures in
     filled-more _ _ _ (l .inv) (omega arith) (sample-step-is (now (a .image)) (now (a .voice)) (l .chip) (l .inv .holds) s (search needs))
     (goes-on (now (a .image)) (now (a .voice)) (l .chip) (l .inv .holds) s)
 
 -- the steps that are played at once: at least one, of those left of the interval, into the room left in the buffer
-part : (c : tie.After-smaller Inv-loop μ-loop) → let l = c .before .before .before .before .before .before .loop in let n = c .smaller .result in
+part : (c : tie.After-smaller Inv-loop μ-loop) → let l = c .before .before .before .before .before .loop in let n = c .smaller .result in
     (1 ≤ leftOfInterval (l .chip .control .clock)) × (n ≤ leftOfInterval (l .chip .control .clock)) × (1 ≤ n) × (l .i + n ≤ length (l .out))
 part c =
-    let e = c .before .before .before .left-of-interval .ensures in
-    let some = c .before .if2 .left in
-    omega (arith, e, some, c .smaller .ensures, c .before .before .before .before .before .loop-test .taken)
+    let e = c .before .before .left-of-interval .ensures in
+    let some = c .before .if1 .left in
+    omega (arith, e, some, c .smaller .ensures, c .before .before .before .before .loop-test .taken)
 
-loop-again-3 : tie.Need-loop-again-3 Inv-loop μ-loop
-loop-again-3 c =
-    let a = c .before .before .before .before .before .before .before .before .before .before .before .before .args in
-    let l = c .before .before .before .before .before .before .before .before .before .loop in
+loop-again-2 : tie.Need-loop-again-2 Inv-loop μ-loop
+loop-again-2 c =
+    let a = c .before .before .before .before .before .before .before .before .before .before .before .args in
+    let l = c .before .before .before .before .before .before .before .before .loop in
     let b = part (c .before .before .before) in
     let e = l .i + c .before .before .before .smaller .result in
     let k = mid-len (l .i) e (l .out) (b .3) in
@@ -75,7 +60,7 @@ loop-again-3 c =
 
 play-on-requires : tie.Need-play-on-requires Inv-loop μ-loop
 play-on-requires c κs =
-    let l = c .before .before .before .before .before .before .before .loop in
+    let l = c .before .before .before .before .before .before .loop in
     let b = part (c .before) in
     let k = mid-len (l .i) (l .i + c .before .smaller .result) (l .out) (b .3) in
     (passed _ _ (l .chip) (l .inv .holds) .chip-valid, omega (arith, k, b, left-few (l .chip .control .clock)))
@@ -88,28 +73,21 @@ fill-spec =
     μ-loop
     (λ c. filled-none _ _ _ _ (c .before .before .pre))
     left-of-interval-requires
-    (λ c. search (needs, c .before .before .before .before .before .before .before .good .1 .1 .1 .0 .1))
+    (λ c κs. c .before .before .before .before .loop .inv .holds)
+    (λ c. search (needs, c .before .before .before .before .before .before .before .before .before .before .good .1 .1 .1 .0 .1))
     (λ c. search needs)
-    (λ c. search needs)
-    (λ c. search needs)
-    (λ c κs. search needs)
+    (λ c. search (needs, c .before .before .before .before .before .before .before .before .before .before .good .1 .1 .1 .0 .0))
     (λ c. search needs)
     loop-again
-    (λ c κs. c .before .before .before .before .before .loop .inv .holds)
-    (λ c. search (needs, c .before .before .before .before .before .before .before .before .before .before .before .good .1 .1 .1 .0 .1))
-    (λ c. search needs)
-    (λ c. search (needs, c .before .before .before .before .before .before .before .before .before .before .before .good .1 .1 .1 .0 .0))
-    (λ c. search needs)
-    loop-again-2
     (λ c. search needs)
     (λ c κs. search needs)
-    (λ c. omega (arith, part c, c .before .before .before .before .before .before .before .before .before .good .1 .1 .1 .0 .0))
-    (λ c. search (needs, c .before .before .before .before .before .before .before .before .before .good .1 .1 .1 .0 .1))
+    (λ c. omega (arith, part c, c .before .before .before .before .before .before .before .before .good .1 .1 .1 .0 .0))
+    (λ c. search (needs, c .before .before .before .before .before .before .before .before .good .1 .1 .1 .0 .1))
     (λ c. omega (arith, part c))
     (λ c. omega (arith, part c))
     (λ c. omega (arith, part c))
     play-on-requires
     (λ c. omega (arith, part (c .before .before .before)))
-    loop-again-3
+    loop-again-2
     (λ c. search needs)
     (λ c. filled-all _ _ _ (c .before .loop .inv) (omega arith)))
