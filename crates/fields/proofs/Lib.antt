@@ -1,0 +1,4 @@
+pub mod Signed
+pub mod Filling
+pub mod Places
+pub mod Theorems

@@ -1,0 +1,4 @@
+pub mod Types
+pub mod Numbers
+pub mod Fields
+pub mod Laws
