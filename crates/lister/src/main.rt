@@ -1,62 +1,14 @@
 // Lists the phrase at the start of an image that it reads from standard input.
-ghost use Prim.Native.Nat.{_+_, _≤_};
-ghost use lib.ListN.{length};
 
 mod lines;
 mod listing;
 mod text;
 
-use libc::STDIN_FILENO;
+use input::read_all;
 use libc::STDOUT_FILENO;
 use listing::fill;
 use listing::first_line;
 use text::size;
-
-// What reading gave: how many bytes, or that it failed.
-struct Input {
-    failed: bool,
-    count: usize,
-}
-
-// Reads once, into the image from index `from` on.
-fn read_from(image: &mut [u8], from: usize) -> Input
-    requires { ⌜ from ≤ length (now image) ⌝ }
-    ensures { λ r. ⌜ from + r .count ≤ length (now (image .entry)) ⌝ }
-{
-    let got = libc::read(STDIN_FILENO, &mut image[from..]);
-    Input {
-        failed: got < 0,
-        count: io::count(got, &image[from..]),
-    }
-}
-
-// Reads until the input ends, the image is full or reading fails.
-fn read_all(image: &mut [u8]) -> Input
-    ensures { λ r. ⌜ r .count ≤ length (now (image .entry)) ⌝ }
-{
-    let mut n = 0;
-    while n < image.len() {
-        let input = read_from(image, n);
-        if input.failed {
-            return Input {
-                failed: true,
-                count: n,
-            };
-        }
-        let more = input.count;
-        if more == 0 {
-            return Input {
-                failed: false,
-                count: n,
-            };
-        }
-        n += more;
-    }
-    Input {
-        failed: false,
-        count: n,
-    }
-}
 
 // Writes the frame lines and answers whether all are written.
 fn write_lines(image: &[u8], lines: u32) -> bool {

@@ -1,16 +1,16 @@
--- `lister::read_all` meets its contract and ends: each turn reads at least a byte. Assumes nothing.
+-- `input::read_all` meets its contract and ends: each turn reads at least a byte. Assumes nothing.
 use borrow.Author.Needs.{needs}
 use mathlib.Core.Path.{_≡_}
 use Prim.Native.Nat.{_-_, _≤_}
 use lib.ListN.{length}
-use Rattle.lister.proofs.read_all.Statement.{statement}
-use Rattle.lister.proofs.read_all.Tie as tie
+use Rattle.input.proofs.read_all.Statement.{statement}
+use Rattle.input.proofs.read_all.Tie as tie
 
 abbrev Inv-loop : tie.InvT-loop
-Inv-loop image₀ n₀ image n = (length image ≡ length image₀) × (n ≤ length image₀)
+Inv-loop buffer₀ n₀ buffer n = (length buffer ≡ length buffer₀) × (n ≤ length buffer₀)
 
 abbrev μ-loop : tie.MeasureT-loop
-μ-loop image₀ n₀ image n = length image₀ - n
+μ-loop buffer₀ n₀ buffer n = length buffer₀ - n
 
 pub read-all-spec : {M : Type 1} → statement M
 read-all-spec =

@@ -1,0 +1,17 @@
+-- `trace::play::run_record` meets its contract. Assumes nothing.
+use borrow.Author.Needs.{needs}
+use mathlib.Core.Path.{sym}
+use lib.Seq.{length-take-le}
+use Rattle.trace.proofs.play.run_record.Statement.{statement}
+use Rattle.trace.proofs.play.run_record.Tie as tie
+
+pub run-record-spec : {M : Type 1} → statement M
+run-record-spec =
+    tie.close
+    (tie.spec
+    (λ c κs. search needs)
+    (λ c. search needs)
+    (λ c. sym (length-take-le _ _ (search needs)))
+    (λ c κs. search needs)
+    (λ c. search needs)
+    (λ c. search needs))

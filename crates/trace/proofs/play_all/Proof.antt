@@ -1,0 +1,61 @@
+-- `trace::play_all` meets its contract. Assumes nothing.
+use borrow.Author.Needs.{needs}
+use mathlib.Core.Path.{_≡_, sym, _∙_}
+use Prim.Native.Nat.{_+_, _-_, _≤_}
+use native.Mathlib.Omega.{arith}
+use lib.ListN.{length}
+use lib.Seq.{length-take-le}
+use Rattle.trace.specs.Script.{limit, byteAt, wordAt, bodyOf}
+use Rattle.trace.proofs.Records.{whole-next}
+use Rattle.trace.proofs.play_all.Statement.{statement}
+use Rattle.trace.proofs.play_all.Tie as tie
+
+abbrev Inv-loop : tie.InvT-loop
+Inv-loop script out₀ player₀ at₀ used₀ t11 out player at used = (length out ≡ length out₀) × (at ≤ length script) × (used ≤ length out₀) × (length script ≤ limit)
+
+abbrev μ-loop : tie.MeasureT-loop
+μ-loop script out₀ player₀ at₀ used₀ t11 out player at used = length script - at
+
+-- the next record begins behind this one's letter, and within the script or at its end
+ends : (c : tie.After-player Inv-loop μ-loop)
+    → let r = c .before .before .before .before .before .before .before .before .before in
+    let l = r .before .before .before .before .loop in
+    let s = r .before .before .before .before .before .before .before .before .args .script .now in
+    (l .at + 1 ≤ r .«record» .given .0 .0) × (r .«record» .given .0 .0 ≤ length s)
+ends c =
+    let r = c .before .before .before .before .before .before .before .before .before in
+    let l = r .before .before .before .before .loop in
+    let s = r .before .before .before .before .before .before .before .before .args .script .now in
+    let h : l .at + 1 ≤ length s = omega (arith, r .before .before .before .loop-test .taken) in
+    whole-next (length s) (l .at + 1) _ (bodyOf (byteAt s (l .at)) (wordAt s (l .at + 1))) h
+    (sym (r .before .before .record-at .ensures) ∙ r .«record» .given .1)
+
+pub play-all-spec : {M : Type 1} → statement M
+play-all-spec =
+    tie.close
+    (tie.spec
+    Inv-loop
+    μ-loop
+    (λ c κs. search needs)
+    (λ c. search needs)
+    (λ c κs. search needs)
+    (λ c. search needs)
+    (λ c. search needs)
+    (λ c. search needs)
+    (λ c κs. search needs)
+    (λ c. search needs)
+    (λ c. sym (length-take-le _ _ (search needs)))
+    (λ c κs. search needs)
+    (λ c. search needs)
+    (λ c. search needs)
+    (λ c κs. search needs)
+    (λ c κs. search needs)
+    (λ c. search needs)
+    (λ c. search needs)
+    (λ c. omega (arith, ends c))
+    (λ c. (search needs, ends c .1, search needs, search needs))
+    (λ c. search needs)
+    (λ c. sym (length-take-le _ _ (search needs)))
+    (λ c κs. search needs)
+    (λ c. search needs)
+    (λ c. search needs))

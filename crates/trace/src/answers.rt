@@ -1,0 +1,151 @@
+// The lines of the answers, in a buffer. Each function puts something into the buffer from index `at` on and answers the index
+// behind it; what finds no room is dropped, so that none of them asks for room.
+ghost use mathlib.Core.Path.{_≡_};
+ghost use Prim.Native.Nat.{_≤_};
+ghost use lib.IntN.{natAbs};
+ghost use lib.ListN.{length};
+use chip::state::Chip;
+use chip::step::Report;
+use fields::to_list::fields;
+use rom::frames::Found;
+use rom::frames::numbers;
+
+pub fn put(out: &mut [u8], at: usize, byte: u8) -> usize
+    ensures { λ r. ⌜ r ≤ length (now (out .entry)) ⌝ }
+{
+    if at < out.len() {
+        out[at] = byte;
+        at + 1
+    } else {
+        out.len()
+    }
+}
+
+pub fn text(out: &mut [u8], at: usize, word: &[u8]) -> usize
+    requires { ⌜ at ≤ length (now out) ⌝ }
+    ensures { λ r. ⌜ r ≤ length (now (out .entry)) ⌝ }
+{
+    let mut p = at;
+    for i in 0..word.len() {
+        p = put(out, p, word[i]);
+    }
+    p
+}
+
+fn digits(out: &mut [u8], at: usize, n: u64) -> usize
+    ensures { λ r. ⌜ r ≤ length (now (out .entry)) ⌝ }
+{
+    let digit = 48 + (n % 10) as u8;
+    if n < 10 {
+        put(out, at, digit)
+    } else {
+        let p = digits(out, at, n / 10);
+        put(out, p, digit)
+    }
+}
+
+// A space and a natural number.
+fn natural(out: &mut [u8], at: usize, n: u64) -> usize
+    ensures { λ r. ⌜ r ≤ length (now (out .entry)) ⌝ }
+{
+    let p = put(out, at, b' ');
+    digits(out, p, n)
+}
+
+// Natural numbers, a space before each.
+fn naturals(out: &mut [u8], at: usize, list: &[u64]) -> usize
+    requires { ⌜ at ≤ length (now out) ⌝ }
+    ensures { λ r. ⌜ r ≤ length (now (out .entry)) ⌝ }
+{
+    let mut p = at;
+    for i in 0..list.len() {
+        p = natural(out, p, list[i]);
+    }
+    p
+}
+
+// A letter and natural numbers, with which each line but a chip's begins.
+pub fn head(out: &mut [u8], at: usize, letter: u8, list: &[u64]) -> usize
+    ensures { λ r. ⌜ r ≤ length (now (out .entry)) ⌝ }
+{
+    let p = put(out, at, letter);
+    naturals(out, p, list)
+}
+
+// A line of a letter and natural numbers alone.
+pub fn line(out: &mut [u8], at: usize, letter: u8, list: &[u64]) -> usize
+    ensures { λ r. ⌜ r ≤ length (now (out .entry)) ⌝ }
+{
+    let p = head(out, at, letter, list);
+    put(out, p, b'\n')
+}
+
+fn magnitude(z: i64) -> u64
+    ensures { λ r. ⌜ r ≡ natAbs z ⌝ }
+{
+    if z < 0 { (-1 - z) as u64 + 1 } else { z as u64 }
+}
+
+// A space and an integer.
+fn integer(out: &mut [u8], at: usize, z: i64) -> usize
+    ensures { λ r. ⌜ r ≤ length (now (out .entry)) ⌝ }
+{
+    let p = put(out, at, b' ');
+    if z < 0 {
+        let q = put(out, p, b'-');
+        digits(out, q, magnitude(z))
+    } else {
+        digits(out, p, magnitude(z))
+    }
+}
+
+// A sample.
+pub fn sample(out: &mut [u8], at: usize, value: i16) -> usize
+    ensures { λ r. ⌜ r ≤ length (now (out .entry)) ⌝ }
+{
+    integer(out, at, value as i64)
+}
+
+pub fn samples(out: &mut [u8], at: usize, values: &[i16]) -> usize
+    requires { ⌜ at ≤ length (now out) ⌝ }
+    ensures { λ r. ⌜ r ≤ length (now (out .entry)) ⌝ }
+{
+    let mut p = at;
+    for i in 0..values.len() {
+        p = sample(out, p, values[i]);
+    }
+    p
+}
+
+// The thirteen numbers of a frame.
+pub fn frame(out: &mut [u8], at: usize, found: Found) -> usize
+    requires { ⌜ at ≤ length (now out) ⌝ }
+    ensures { λ r. ⌜ r ≤ length (now (out .entry)) ⌝ }
+{
+    let list = numbers(found);
+    let mut p = at;
+    for i in 0..13 {
+        p = natural(out, p, list[i] as u64);
+    }
+    p
+}
+
+// What a step reports: its number, and the frame's numbers.
+pub fn report(out: &mut [u8], at: usize, told: Report) -> usize
+    ensures { λ r. ⌜ r ≤ length (now (out .entry)) ⌝ }
+{
+    let p = natural(out, at, told.number() as u64);
+    frame(out, p, told.frame())
+}
+
+// The line `C`.
+pub fn chip_line(out: &mut [u8], at: usize, chip: Chip) -> usize
+    ensures { λ r. ⌜ r ≤ length (now (out .entry)) ⌝ }
+{
+    let list = fields(chip);
+    let mut p = put(out, at, b'C');
+    for i in 0..63 {
+        p = integer(out, p, list[i]);
+    }
+    put(out, p, b'\n')
+}
