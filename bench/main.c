@@ -1,84 +1,178 @@
-/* bench compare             both versions on many random sounds: how many, or the first that differs
-   bench run C|R PITCH N     N samples of one sound by the C or the Rattle version, voiced where PITCH is not 0 */
+/* bench compare          both versions on every workload and on many random inputs: how many, or the first that differs
+   bench list             the workloads, a line each: number, units timed, few, many, unit, name
+   bench time I           nanoseconds for one unit of workload I, by C and by the proved code
+   bench work I C|R N     N units of workload I by one version, to count its instructions
+   bench space            bytes of C's chip, and bytes of stack that a run takes, by C and by the proved code */
 #include <stdio.h>
 #include <stdlib.h>
 #include <string.h>
-#include "sample.h"
+#include <time.h>
+#include "chip.h"
+#include "inputs.h"
+#include "stack.h"
+#include "work.h"
 
-/* the exported function of the crate `export`; a slice is a pointer and a length */
-uint8_t sound_play(int32_t energy, int32_t pitch, int32_t k1, int32_t k2, int32_t k3, int32_t k4, int32_t k5, int32_t k6,
-                   int32_t k7, int32_t k8, int32_t k9, int32_t k10, uint32_t noise, uint32_t place,
-                   const uint8_t *file, size_t file_length, int16_t *out, size_t out_length);
+/* ---- the same answers */
 
-#define MOST 60000
-static uint8_t file[562];
-static int16_t by_c[MOST], by_rattle[MOST];
-
-static uint64_t seed = 1;
-static int between(int low, int high)
+static uint64_t digest_of(const struct workload *w, const struct version *v, size_t units)
 {
-    seed = seed * 6364136223846793005u + 1442695040888963407u;
-    return low + (int)((seed >> 33) % (uint64_t)(high - low + 1));
+    digesting = true;
+    digest = 0;
+    w->work(v, units);
+    digesting = false;
+    return digest;
 }
 
-static struct sound random_sound(int pitch)
+static int compare_workloads(void)
 {
-    struct sound s = {0};
-    s.current.energy = between(0, 1023);
-    s.current.pitch = pitch;
-    for (int i = 0; i < 10; i++)
-        s.current.k[i] = between(-512, 511);
-    s.target = s.current;
-    s.noise = between(1, 8191);
-    s.pulse = between(0, 1022);
-    return s;
-}
-
-static void random_file(void)
-{
-    for (size_t i = 0; i < sizeof file; i++)
-        file[i] = between(0, 255);
-    file[497] = between(1, 64);
-}
-
-static int rattle(const struct sound *s, int16_t *out, size_t n)
-{
-    const int *k = s->current.k;
-    return sound_play(s->current.energy, s->current.pitch, k[0], k[1], k[2], k[3], k[4], k[5], k[6], k[7], k[8], k[9],
-                      s->noise, s->pulse, file, sizeof file, out, n);
-}
-
-static int compare(int rounds)
-{
-    for (int r = 0; r < rounds; r++) {
-        random_file();
-        struct sound s = random_sound(between(0, 1) ? between(1, 1023) : between(0, 1) ? between(1, 64) : 0);
-        size_t n = between(0, 1000);
-        int fault = rattle(&s, by_rattle, n);
-        play(&s, file, by_c, n);
-        if (fault || memcmp(by_c, by_rattle, n * sizeof *by_c)) {
-            printf("round %d differs\n", r);
+    for (size_t i = 0; i < workload_count; i++) {
+        const struct workload *w = &workloads[i];
+        w->prepare();
+        if (digest_of(w, &plain, w->timed) != digest_of(w, &proved, w->timed)) {
+            printf("%s differs\n", w->name);
             return 1;
         }
     }
-    printf("%d random sounds, the same samples\n", rounds);
+    printf("%zu workloads, the same answers and samples\n", workload_count);
     return 0;
+}
+
+enum { MOST = 4000 };
+
+struct answer {
+    uint8_t refusal[5];
+    uint64_t walked[4];
+    int16_t out[3][MOST];
+};
+
+struct input {
+    uint8_t image[1000], voice[600], bytes[1000];
+    size_t image_length, voice_length, bytes_length, address, length;
+};
+
+/* Mostly valid: frames or any bytes, a few with a wrong length or a wrong byte. */
+static void make_input(struct input *in)
+{
+    static struct image frames;
+    static const struct mix mixes[] = {{10, 25, 25}, {40, 20, 20}, {0, 50, 30}};
+    make_image(&frames, sizeof in->image, mixes[between(0, 2)], between(1, 40));
+    memcpy(in->image, frames.bytes, sizeof in->image);
+    make_image(&frames, sizeof in->bytes, mixes[between(0, 2)], between(1, 40));
+    memcpy(in->bytes, frames.bytes, sizeof in->bytes);
+    if (between(0, 3) == 0)
+        for (size_t i = 0; i < sizeof in->image; i++)
+            in->image[i] = between(0, 255);
+    if (between(0, 3) == 0)
+        for (size_t i = 0; i < sizeof in->bytes; i++)
+            in->bytes[i] = between(0, 255);
+    in->image_length = between(0, 20) ? between(1, sizeof in->image) : 0;
+    in->bytes_length = between(0, sizeof in->bytes);
+    in->voice_length = make_voice(in->voice);
+    if (between(0, 9) == 0)
+        in->voice_length += between(-70, 30);
+    if (between(0, 9) == 0)
+        in->voice[between(0, 499)] = between(0, 255);
+    in->address = between(0, in->image_length + 1);
+    in->length = between(0, MOST);
+}
+
+static void answer_by(const struct version *v, const struct input *in, struct answer *a)
+{
+    size_t bits;
+    uint32_t frames;
+    memset(a, 0, sizeof *a);
+    a->refusal[0] = v->walk(in->image, in->image_length, in->address, &bits, &frames, &a->walked[0], &a->walked[1]);
+    a->walked[2] = bits;
+    a->walked[3] = frames;
+    a->refusal[1] = v->check(in->voice, in->voice_length);
+    a->refusal[2] = v->speak(in->image, in->image_length, in->voice, in->voice_length, in->address, a->out[0], in->length);
+    a->refusal[3] = v->speak_by_steps(in->image, in->image_length, in->voice, in->voice_length, in->address, a->out[1],
+                                      in->length / 4);
+    a->refusal[4] = v->speak_external(in->image, in->image_length, in->voice, in->voice_length, in->bytes,
+                                      in->bytes_length, a->out[2], in->length);
+}
+
+static int compare_random(int rounds)
+{
+    static struct input in;
+    static struct answer by_c, by_rattle;
+    int taken = 0;
+    for (int r = 0; r < rounds; r++) {
+        make_input(&in);
+        answer_by(&plain, &in, &by_c);
+        answer_by(&proved, &in, &by_rattle);
+        if (memcmp(&by_c, &by_rattle, sizeof by_c)) {
+            printf("random input %d differs\n", r);
+            return 1;
+        }
+        taken += by_c.refusal[2] == 0;
+    }
+    printf("%d random inputs, %d of them spoken, the same answers and samples\n", rounds, taken);
+    return 0;
+}
+
+/* ---- time: the best of three, the versions in turn */
+
+static double seconds(const struct workload *w, const struct version *v)
+{
+    struct timespec from, to;
+    clock_gettime(CLOCK_MONOTONIC, &from);
+    w->work(v, w->timed);
+    clock_gettime(CLOCK_MONOTONIC, &to);
+    return (to.tv_sec - from.tv_sec) + 1e-9 * (to.tv_nsec - from.tv_nsec);
+}
+
+static void time_both(const struct workload *w)
+{
+    double by_c = 1e9, by_rattle = 1e9;
+    w->prepare();
+    for (int i = 0; i < 3; i++) {
+        double c = seconds(w, &plain), r = seconds(w, &proved);
+        by_c = c < by_c ? c : by_c;
+        by_rattle = r < by_rattle ? r : by_rattle;
+    }
+    printf("%.3f %.3f\n", 1e9 * by_c / w->timed, 1e9 * by_rattle / w->timed);
+}
+
+/* ---- stack */
+
+static void run_by_c(void)
+{
+    workloads[0].work(&plain, 1000);
+}
+
+static void run_by_rattle(void)
+{
+    workloads[0].work(&proved, 1000);
 }
 
 int main(int argc, char **argv)
 {
-    if (argc == 2 && !strcmp(argv[1], "compare"))
-        return compare(20000);
-    if (argc == 5 && !strcmp(argv[1], "run")) {
-        size_t n = atoi(argv[4]);
-        random_file();
-        struct sound s = random_sound(atoi(argv[3]));
-        if (n > MOST)
-            return 2;
-        if (*argv[2] == 'C')
-            play(&s, file, by_c, n);
-        else
-            rattle(&s, by_rattle, n);
+    const char *what = argc > 1 ? argv[1] : "";
+    if (!strcmp(what, "compare"))
+        return compare_workloads() || compare_random(3000);
+    if (!strcmp(what, "list")) {
+        for (size_t i = 0; i < workload_count; i++) {
+            const struct workload *w = &workloads[i];
+            printf("%zu %zu %zu %zu %s %s\n", i, w->timed, w->few, w->many, w->unit, w->name);
+        }
+        return 0;
+    }
+    if (!strcmp(what, "space")) {
+        workloads[0].prepare();
+        printf("%zu %zu %zu\n", sizeof(struct chip), stack_use(run_by_c), stack_use(run_by_rattle));
+        return 0;
+    }
+    size_t i = argc > 2 ? (size_t)atoi(argv[2]) : workload_count;
+    if (i >= workload_count)
+        return 2;
+    if (!strcmp(what, "time")) {
+        time_both(&workloads[i]);
+        return 0;
+    }
+    if (!strcmp(what, "work") && argc == 5) {
+        workloads[i].prepare();
+        workloads[i].work(*argv[3] == 'C' ? &plain : &proved, atol(argv[4]));
         return 0;
     }
     return 2;

@@ -1,0 +1,78 @@
+/* The TMS5220 by document 01's rules, in plain C: what the proved library is compared with. */
+#include <stdbool.h>
+#include <stddef.h>
+#include <stdint.h>
+
+enum refusal {
+    TAKEN, WAIT, BEYOND, IMAGE, STATE, VOICE_SIZE, VOICE_LENGTH, VOICE_VERSION, VOICE_VALUE, VOICE_PULSE, NO_PHRASE
+};
+
+/* a lent slice */
+struct bytes {
+    const uint8_t *at;
+    size_t length;
+};
+
+/* ---- frames and the walk: rom.c */
+
+enum kind { SILENCE, STOP, REPEAT, UNVOICED, VOICED };
+
+struct frame {
+    enum kind kind;
+    unsigned energy, pitch, k[10];
+};
+
+struct walk {
+    size_t bits;
+    uint32_t frames;
+    uint64_t intervals, samples;
+};
+
+bool image_valid(struct bytes image);
+unsigned field(struct bytes s, size_t bit, unsigned width);
+bool frame_at(struct bytes s, size_t bit, struct frame *frame, size_t *next);
+int walk(struct bytes image, size_t address, struct walk *answer);
+
+/* ---- the voice file: voice.c */
+
+int voice_check(struct bytes voice);
+
+/* ---- the chip: chip.c */
+
+struct params {
+    int energy, pitch, k[10];
+};
+
+struct sound {
+    struct params current, target;
+    int memory[10];
+    unsigned noise, pulse;
+};
+
+enum mode { IDLE, ROM, WAITING, EXTERNAL };
+
+struct chip {
+    enum mode mode;
+    size_t position;
+    unsigned nibble;
+    uint8_t fifo[16];
+    unsigned level, used;
+    bool pending, interrupt, sounding;
+    uint8_t byte;
+    unsigned sample, interval;
+    struct sound sound;
+};
+
+enum report { NOTHING, FRAME, STOPPED, RAN_OUT };
+
+struct step {
+    int16_t sample;
+    enum report report;
+    struct frame frame;
+};
+
+void power_up(struct chip *c);
+int chip_write(struct chip *c, struct bytes image, uint8_t byte);
+int chip_read(struct chip *c, uint8_t *byte);
+int chip_step(struct chip *c, struct bytes image, struct bytes voice, struct step *answer);
+int chip_run(struct chip *c, struct bytes image, struct bytes voice, int16_t *out, size_t length);

@@ -1,0 +1,88 @@
+/* The host's side over plain C, call for call what crates/export does over the proved library. */
+#include "chip.h"
+#include "host.h"
+
+const struct version plain = {c_walk, c_voice_check, c_speak, c_speak_by_steps, c_speak_external};
+const struct version proved = {tms_walk, tms_voice_check, tms_speak, tms_speak_by_steps, tms_speak_external};
+
+uint8_t c_walk(const uint8_t *image, size_t image_length, size_t address, size_t *bits, uint32_t *frames,
+               uint64_t *intervals, uint64_t *samples)
+{
+    struct walk answer;
+    int refusal = walk((struct bytes){image, image_length}, address, &answer);
+    *bits = answer.bits;
+    *frames = answer.frames;
+    *intervals = answer.intervals;
+    *samples = answer.samples;
+    return refusal;
+}
+
+uint8_t c_voice_check(const uint8_t *voice, size_t voice_length)
+{
+    return voice_check((struct bytes){voice, voice_length});
+}
+
+/* Writes bytes up to the first that is refused; returns its number, and how many were taken. */
+static int give(struct chip *c, struct bytes image, const uint8_t *bytes, size_t length, size_t *taken)
+{
+    for (*taken = 0; *taken < length; ++*taken) {
+        int refusal = chip_write(c, image, bytes[*taken]);
+        if (refusal)
+            return refusal;
+    }
+    return TAKEN;
+}
+
+static int begin(struct chip *c, struct bytes image, size_t address)
+{
+    uint8_t bytes[6];
+    size_t taken;
+    for (int i = 0; i < 5; i++)
+        bytes[i] = 0x40 | (address >> 4 * i & 15);
+    bytes[5] = 0x50;
+    power_up(c);
+    return give(c, image, bytes, 6, &taken);
+}
+
+uint8_t c_speak(const uint8_t *image, size_t image_length, const uint8_t *voice, size_t voice_length, size_t address,
+                int16_t *out, size_t out_length)
+{
+    struct bytes rom = {image, image_length}, file = {voice, voice_length};
+    struct chip c;
+    int refusal = begin(&c, rom, address);
+    return refusal ? refusal : chip_run(&c, rom, file, out, out_length);
+}
+
+uint8_t c_speak_by_steps(const uint8_t *image, size_t image_length, const uint8_t *voice, size_t voice_length,
+                         size_t address, int16_t *out, size_t out_length)
+{
+    struct bytes rom = {image, image_length}, file = {voice, voice_length};
+    struct chip c;
+    struct step step;
+    int refusal = begin(&c, rom, address);
+    if (refusal)
+        return refusal;
+    for (size_t i = 0; i < out_length; i++) {
+        refusal = chip_step(&c, rom, file, &step);
+        out[i] = step.sample;
+    }
+    return refusal;
+}
+
+uint8_t c_speak_external(const uint8_t *image, size_t image_length, const uint8_t *voice, size_t voice_length,
+                         const uint8_t *bytes, size_t bytes_length, int16_t *out, size_t out_length)
+{
+    struct bytes rom = {image, image_length}, file = {voice, voice_length};
+    struct chip c;
+    size_t next = 0, taken;
+    power_up(&c);
+    int refusal = chip_write(&c, rom, 0x60);
+    if (refusal)
+        return refusal;
+    for (size_t i = 0; out_length - i >= 100; i += 100) {
+        give(&c, rom, bytes + next, bytes_length - next, &taken);
+        next += taken;
+        refusal = chip_run(&c, rom, file, out + i, 100);
+    }
+    return refusal;
+}

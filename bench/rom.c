@@ -1,0 +1,72 @@
+/* Bits of an image, frames, and the phrase walk. */
+#include "chip.h"
+
+bool image_valid(struct bytes image)
+{
+    return image.length >= 1 && image.length <= 262144;
+}
+
+static unsigned byte_at(struct bytes s, size_t i)
+{
+    return i < s.length ? s.at[i] : 0;
+}
+
+/* The bits from a bit on, at most 8, the first most significant; zeros past the end. They lie in two bytes. */
+unsigned field(struct bytes s, size_t bit, unsigned width)
+{
+    unsigned word = byte_at(s, bit / 8) << 8 | byte_at(s, bit / 8 + 1);
+    return word >> (16 - bit % 8 - width) & ((1u << width) - 1);
+}
+
+/* The kind of the frame at a bit, its energy and pitch, and the bits that it takes. */
+static unsigned head(struct bytes s, size_t bit, struct frame *f)
+{
+    f->energy = field(s, bit, 4);
+    f->pitch = 0;
+    if (f->energy == 0 || f->energy == 15) {
+        f->kind = f->energy ? STOP : SILENCE;
+        return 4;
+    }
+    f->pitch = field(s, bit + 5, 6);
+    if (field(s, bit + 4, 1)) {
+        f->kind = REPEAT;
+        return 11;
+    }
+    f->kind = f->pitch ? VOICED : UNVOICED;
+    return f->pitch ? 50 : 29;
+}
+
+bool frame_at(struct bytes s, size_t bit, struct frame *f, size_t *next)
+{
+    static const unsigned width[10] = {5, 5, 4, 4, 4, 4, 4, 3, 3, 3};
+    *next = bit + head(s, bit, f);
+    if (*next > 8 * s.length)
+        return false;
+    int count = f->kind == VOICED ? 10 : f->kind == UNVOICED ? 4 : 0;
+    bit += 11;
+    for (int i = 0; i < count; i++) {
+        f->k[i] = field(s, bit, width[i]);
+        bit += width[i];
+    }
+    return true;
+}
+
+int walk(struct bytes image, size_t address, struct walk *answer)
+{
+    *answer = (struct walk){0};
+    if (!image_valid(image))
+        return IMAGE;
+    if (address >= image.length)
+        return BEYOND;
+    size_t bit = 8 * address;
+    uint32_t frames = 0;
+    struct frame f;
+    do {
+        bit += head(image, bit, &f);
+        if (bit > 8 * image.length)
+            return NO_PHRASE;
+        frames++;
+    } while (f.kind != STOP);
+    *answer = (struct walk){bit - 8 * address, frames, 8ull * frames, 200ull * frames};
+    return TAKEN;
+}

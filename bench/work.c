@@ -1,0 +1,152 @@
+#include <stdlib.h>
+#include "work.h"
+#include "inputs.h"
+
+bool digesting;
+uint64_t digest;
+
+static struct image image;
+static uint8_t voice[562];
+static size_t voice_length;
+
+/* the samples of one phrase: 25,000 voiced frames, which an image holds */
+enum { PHRASE = 5000000 };
+static int16_t out[PHRASE];
+
+static void note(uint64_t number)
+{
+    if (digesting)
+        digest = (digest ^ number) * 1099511628211u;
+}
+
+static void note_samples(size_t n)
+{
+    for (size_t i = 0; digesting && i < n; i++)
+        note((uint16_t)out[i]);
+}
+
+/* ---- speech from ROM */
+
+static void prepare_speech(struct mix mix)
+{
+    voice_length = make_voice(voice);
+    make_image(&image, IMAGE_LIMIT, mix, 0);
+}
+
+static void prepare_voiced(void)
+{
+    prepare_speech(all_voiced);
+}
+
+static void prepare_unvoiced(void)
+{
+    prepare_speech(all_unvoiced);
+}
+
+static void prepare_mixed(void)
+{
+    prepare_speech(speech);
+}
+
+static void speak_by(speak_call *speak, size_t samples)
+{
+    while (samples > 0) {
+        size_t part = samples < PHRASE ? samples : PHRASE;
+        note(speak(image.bytes, image.length, voice, voice_length, 0, out, part));
+        note_samples(part);
+        samples -= part;
+    }
+}
+
+static void run(const struct version *v, size_t samples)
+{
+    speak_by(v->speak, samples);
+}
+
+static void step(const struct version *v, size_t samples)
+{
+    speak_by(v->speak_by_steps, samples);
+}
+
+/* ---- external speech: the bytes of the image, and an image of one byte for the calls to take */
+
+static void external(const struct version *v, size_t samples)
+{
+    static const uint8_t rom[1];
+    while (samples > 0) {
+        size_t part = samples < PHRASE ? samples : PHRASE;
+        note(v->speak_external(rom, sizeof rom, voice, voice_length, image.bytes, image.length, out, part));
+        note_samples(part);
+        samples -= part;
+    }
+}
+
+/* ---- the walk */
+
+static void prepare_silence(void)
+{
+    make_image(&image, IMAGE_LIMIT, all_silence, 0);
+}
+
+static void walk_from(const struct version *v, size_t address)
+{
+    size_t bits;
+    uint32_t frames;
+    uint64_t intervals, samples;
+    note(v->walk(image.bytes, image.length, address, &bits, &frames, &intervals, &samples));
+    note(bits);
+    note(frames);
+    note(intervals);
+    note(samples);
+}
+
+/* Walks of so many frames: the whole image as often as it takes, and a part of it, up to a stop that is put there. */
+static void walk(const struct version *v, size_t frames)
+{
+    for (; frames >= image.count; frames -= image.count)
+        walk_from(v, 0);
+    if (frames == 0)
+        return;
+    unsigned old = put_energy(&image, frames - 1, 15);
+    walk_from(v, 0);
+    put_energy(&image, frames - 1, old);
+}
+
+static void prepare_phrases(void)
+{
+    make_image(&image, 16384, speech, 60);
+}
+
+static void walk_each(const struct version *v, size_t walks)
+{
+    for (size_t i = 0; i < walks; i++)
+        walk_from(v, i % image.length);
+}
+
+/* ---- the voice file */
+
+static void prepare_voice(void)
+{
+    voice_length = make_voice(voice);
+}
+
+static void check(const struct version *v, size_t checks)
+{
+    for (size_t i = 0; i < checks; i++)
+        note(v->check(voice, voice_length));
+}
+
+const struct workload workloads[] = {
+    {"run, voiced", "sample", 10000000, 20000, 120000, prepare_voiced, run},
+    {"run, unvoiced", "sample", 10000000, 20000, 120000, prepare_unvoiced, run},
+    {"run, mixed", "sample", 10000000, 20000, 120000, prepare_mixed, run},
+    {"external speech, mixed", "sample", 2000000, 20000, 120000, prepare_mixed, external},
+    {"step by step, mixed", "sample", 200000, 2000, 12000, prepare_mixed, step},
+    {"walk, silence", "frame", 5000000, 100000, 500000, prepare_silence, walk},
+    {"walk, voiced", "frame", 2000000, 10000, 40000, prepare_voiced, walk},
+    {"walk, mixed", "frame", 2000000, 10000, 40000, prepare_mixed, walk},
+    {"walk from each address", "walk", 163840, 16384, 32768, prepare_phrases, walk_each},
+    {"voice check", "check", 200000, 1000, 3000, prepare_voice, check},
+};
+
+const size_t workload_count = sizeof workloads / sizeof *workloads;

@@ -1,0 +1,49 @@
+-- `export::speak::step_each` meets its contract. The loop's invariant: the buffer holds the samples of i steps.
+-- Assumes nothing.
+use borrow.Author.Needs.{needs}
+use mathlib.Core.Path.{_≡_, ap}
+use Prim.Native.Nat.{ℕ, _-_}
+use native.Mathlib.Omega.{arith}
+use lib.ListN.{length}
+use denote.Ref.{now}
+use Rattle.base.proofs.Steps.{Filled, filled-none, filled-more, filled-all}
+use Rattle.chip.specs.declared.state.Chip.{Chip}
+use Rattle.export.specs.Speak.{numberedStep}
+use Rattle.export.proofs.Phrases.{numbered-step-is}
+use Rattle.export.proofs.speak.step_each.Statement.{statement}
+use Rattle.export.proofs.speak.step_each.Tie as tie
+
+abbrev Inv-loop : tie.InvT-loop
+Inv-loop image voice out₀ chip₀ refusal₀ i₀ out chip refusal i =
+    Filled (numberedStep image voice) (λ (s : Chip × ℕ). Unit {0}) (chip₀, 0) (length out₀) out (chip, refusal) i
+
+abbrev μ-loop : tie.MeasureT-loop
+μ-loop image voice out₀ chip₀ refusal₀ i₀ out chip refusal i = length out₀ - i
+
+loop-again : tie.Need-loop-again Inv-loop μ-loop
+loop-again c =
+    let a = c .before .before .before .before .before .before .before .args in
+    let l = c .before .before .before .before .loop in
+    filled-more _ _ _ (l .inv) (omega arith)
+    (numbered-step-is (now (a .image)) (now (a .voice)) (l .chip) (l .refusal) (c .before .before .step .ensures) (search needs)) tt
+
+returns : tie.Need-returns Inv-loop μ-loop
+returns c =
+    let f = filled-all _ _ _ (c .before .loop .inv) (omega arith) in
+    (ap (λ (s : Chip × ℕ). s .1) (f .0), f .1)
+
+pub step-each-spec : {M : Type 1} → statement M
+step-each-spec =
+    tie.close
+    (tie.spec
+    Inv-loop
+    μ-loop
+    (λ c. filled-none _ _ _ _ tt)
+    (λ c κs. search needs)
+    (λ c. search (needs, c .before .before .before .before .before .before .good .1 .1 .1 .0 .1))
+    (λ c. search needs)
+    (λ c. search (needs, c .before .before .before .before .before .before .before .good .1 .1 .1 .0 .0))
+    (λ c. search needs)
+    loop-again
+    (λ c. search needs)
+    returns)
