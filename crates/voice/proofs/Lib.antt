@@ -4,4 +4,5 @@ pub mod Order
 pub mod Places
 pub mod Pulses
 pub mod Signed
+pub mod Tables
 pub mod Valid

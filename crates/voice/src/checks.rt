@@ -1,6 +1,8 @@
 // The check of a voice file, with the number of pitches and the version as parameters.
 ghost use mathlib.Core.Path.{_≡_};
-ghost use Rattle.voice.specs.Layout.{pitches};
+ghost use Prim.Native.Nat.{_≤_};
+ghost use lib.ListN.{length};
+ghost use Rattle.voice.specs.Layout.{pitches, countAt};
 ghost use Rattle.voice.specs.Check.{version, sizeFault, lengthFault, versionFault, unsignedValid, kValid, entryValid, tableValid, valueFault, pulseFault, voiceFault};
 use crate::layout::PITCHES;
 use crate::layout::Table;
@@ -89,12 +91,22 @@ fn table_valid(file: &[u8], pitches: u8, table: Table) -> bool
 }
 
 // Whether a table value is out of range.
-fn value_fault(file: &[u8], pitches: u8) -> bool
+fn tables_fault(file: &[u8], pitches: u8) -> bool
     ensures { λ r. ⌜ r ≡ valueFault pitches (now (file .entry)) ⌝ }
 {
     !(table_valid(file, pitches, Table::Energy)
         & table_valid(file, pitches, Table::Pitch)
         & table_valid(file, pitches, Table::K))
+}
+
+// The same, of the tables apart from what follows them: their length is known when the check is compiled, so that no read of
+// theirs is tested against the file's end.
+fn value_fault(file: &[u8], pitches: u8) -> bool
+    requires { ⌜ countAt pitches ≤ length (now file) ⌝ }
+    ensures { λ r. ⌜ r ≡ valueFault pitches (now (file .entry)) ⌝ }
+{
+    let end = count_at(pitches);
+    tables_fault(&file[..end], pitches)
 }
 
 // Whether the pulse count is 0, over 64, or not that of the length field.
