@@ -46,11 +46,35 @@ struct answer {
 };
 
 struct input {
-    uint8_t image[1000], voice[600], bytes[1000];
+    uint8_t image[1000], voice[640], bytes[1000];
     size_t image_length, voice_length, bytes_length, address, length;
 };
 
-/* Mostly valid: frames or any bytes, a few with a wrong length or a wrong byte. */
+/* Makes a voice file wrong, or nearly so, in one place. */
+static void spoil_voice(struct input *in)
+{
+    static const int words[] = {-513, -512, 0, 1, 511, 512, 1023, 1024};
+    int at = 3 + 2 * between(0, 246), word = words[between(0, 7)];
+    switch (between(0, 4)) {
+    case 0:
+        in->voice_length += between(-70, 70);
+        break;
+    case 1:
+        in->voice[between(0, 1)] ^= 1 << between(0, 7);
+        break;
+    case 2:
+        in->voice[2] = between(0, 2);
+        break;
+    case 3:
+        in->voice[at] = word >> 8 & 255;
+        in->voice[at + 1] = word & 255;
+        break;
+    default:
+        in->voice[497] = between(0, 70);
+    }
+}
+
+/* Mostly valid: frames or any bytes, an address at times past the end, a voice file at times spoilt. */
 static void make_input(struct input *in)
 {
     static struct image frames;
@@ -68,10 +92,8 @@ static void make_input(struct input *in)
     in->image_length = between(0, 20) ? between(1, sizeof in->image) : 0;
     in->bytes_length = between(0, sizeof in->bytes);
     in->voice_length = make_voice(in->voice);
-    if (between(0, 9) == 0)
-        in->voice_length += between(-70, 30);
-    if (between(0, 9) == 0)
-        in->voice[between(0, 499)] = between(0, 255);
+    if (between(0, 3) == 0)
+        spoil_voice(in);
     in->address = between(0, in->image_length + 1);
     in->length = between(0, MOST);
 }

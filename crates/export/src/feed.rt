@@ -1,9 +1,7 @@
 // External speech into a buffer, the FIFO filled again and again.
 ghost use mathlib.Core.Path.{_≡_};
 ghost use lib.ListN.{length};
-ghost use Rattle.base.specs.Steps.{stateAfter};
-ghost use Rattle.export.specs.Feed.{filled, turned, turnOf, turns, fedFault, fedInto, externalFault, externalInto};
-use crate::giving::Given;
+ghost use Rattle.export.specs.Feed.{turned, turnOf, turns, fedFault, fedInto, externalFault, externalInto};
 use crate::giving::give;
 use base::refusal::TAKEN;
 use chip::state::Chip;

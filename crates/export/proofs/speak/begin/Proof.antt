@@ -1,6 +1,5 @@
 -- `export::speak::begin` meets its contract. Assumes nothing.
 use borrow.Author.Needs.{needs}
-use mathlib.Core.Path.{_≡_, refl}
 use Rattle.export.specs.Speak.{begun}
 use Rattle.export.proofs.speak.begin.Statement.{statement}
 use Rattle.export.proofs.speak.begin.Tie as tie

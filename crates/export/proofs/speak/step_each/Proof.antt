@@ -1,7 +1,7 @@
 -- `export::speak::step_each` meets its contract. The loop's invariant: the buffer holds the samples of i steps.
 -- Assumes nothing.
 use borrow.Author.Needs.{needs}
-use mathlib.Core.Path.{_≡_, ap}
+use mathlib.Core.Path.{ap}
 use Prim.Native.Nat.{ℕ, _-_}
 use native.Mathlib.Omega.{arith}
 use lib.ListN.{length}
