@@ -2,3 +2,4 @@ pub mod Booleans
 pub mod Faults
 pub mod Range
 pub mod Steps
+pub mod Signed

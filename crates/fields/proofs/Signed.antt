@@ -1,6 +1,6 @@
 -- Fields' values as numbers of the list, and back.
 -- Assumes nothing.
-use mathlib.Core.Path.{_≡_, refl, subst, _∙_}
+use mathlib.Core.Path.{_≡_, refl}
 use mathlib.Core.Bool.{Bool, true, false}
 use mathlib.Core.List.{List, [], _∷_, map}
 use Prim.Native.Nat.{ℕ, suc, _%_, _^_, _≤_, _<_}
@@ -8,12 +8,11 @@ use native.Mathlib.Omega.{arith}
 use lib.Dec.{T}
 use lib.IntN.{ℤ, pos, negsuc, negℤ, natAbs}
 use lib.ListN.{getD}
-use lib.Signed.{ltZ, nonNeg, mag}
-use mir.Syntax.{w64}
-use mir.Val.{toZ, ofZ}
+use lib.Signed.{ltZ, nonNeg}
 use borrow.Author.Tests.{ltb-true}
 use Rattle.base.specs.Range.{Between, clamped}
-use Rattle.base.proofs.Range.{back-at, not-less, is-not-less, ordered}
+use Rattle.base.proofs.Range.{not-less, is-not-less, ordered}
+use Rattle.base.proofs.Signed.{not-negative}
 use Rattle.fields.specs.Types.{Mode, Idle, Rom, Waiting, External}
 use Rattle.fields.specs.Numbers.{wide, flag, modeNumber, natural, short, flagOf, modeOf}
 
@@ -22,10 +21,6 @@ use Rattle.fields.specs.Numbers.{wide, flag, modeNumber, natural, short,
 pub negative-is : (z : ℤ) (most : ℕ) → ltZ z (pos 0) ≡ true → 0 ≡ natural most z
 negative-is (pos n) most e = absurd (omega (arith, ltb-true n 0 e))
 negative-is (negsuc n) most e = refl
-
-pub not-negative : (z : ℤ) → ltZ z (pos 0) ≡ false → T (nonNeg z)
-not-negative (pos n) e = tt
-not-negative (negsuc n) e = subst T e tt
 
 module _ (z : ℤ) (most : ℕ) (e : ltZ z (pos 0) ≡ false) where
   pub low-is : natAbs z < most → natAbs z ≡ natural most z
@@ -41,16 +36,6 @@ module _ (z : ℤ) (most : ℕ) (e : ltZ z (pos 0) ≡ false) where
       of : (z : ℤ) → T (nonNeg z) → most ≤ natAbs z → most ≡ natural most z
       of (pos n) t h = omega arith
       of (negsuc n) t h = absurd t
-
-pub abs-below : (z : ℤ) → mag z < 2 ^ 63 → natAbs z < 2 ^ 64
-abs-below (pos n) h = omega arith
-abs-below (negsuc n) h = omega arith
-
--- ---- signed results
-
--- what a call returns and what an operation leaves in an i64 are read as they are
-pub returned : {r z : ℤ} → mag r < 2 ^ 63 → r ≡ z → toZ w64 (ofZ w64 r) ≡ z
-returned {r} h e = back-at w64 r h ∙ e
 
 -- ---- 16 bits
 

@@ -2,11 +2,9 @@
 ghost use mathlib.Core.Path.{_≡_};
 ghost use Prim.Native.Nat.{_≤_};
 ghost use lib.ListN.{length};
-ghost use Rattle.trace.specs.Script.{limit};
+ghost use Rattle.script.specs.Script.{limit};
 
-mod answers;
 mod play;
-mod script;
 
 use answers::text;
 use input::read_all;

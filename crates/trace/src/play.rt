@@ -1,27 +1,27 @@
 // What each record does, and its answers.
 ghost use Prim.Native.Nat.{_≤_, _<_};
 ghost use lib.ListN.{length};
-ghost use Rattle.trace.specs.Script.{limit};
-use crate::answers::chip_line;
-use crate::answers::frame;
-use crate::answers::head;
-use crate::answers::line;
-use crate::answers::put;
-use crate::answers::report;
-use crate::answers::sample;
-use crate::answers::samples;
-use crate::answers::text;
-use crate::script::RUN_LIMIT;
-use crate::script::byte_at;
-use crate::script::long_at;
-use crate::script::part;
-use crate::script::word_at;
+ghost use Rattle.script.specs.Script.{limit};
+use answers::chip_line;
+use answers::frame;
+use answers::head;
+use answers::line;
+use answers::put;
+use answers::report;
+use answers::sample;
+use answers::samples;
+use answers::text;
 use base::refusal::TAKEN;
 use chip::state::Chip;
 use fields::from_list::of_fields;
 use rom::phrases::phrase;
 use rom::phrases::walk;
 use rom::reader::frame_taken;
+use script::RUN_LIMIT;
+use script::byte_at;
+use script::long_at;
+use script::part;
+use script::word_at;
 use voice::checks::voice_check;
 
 // A part of the script: from a byte on up to another.

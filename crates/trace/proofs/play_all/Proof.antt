@@ -5,8 +5,8 @@ use Prim.Native.Nat.{_+_, _-_, _≤_}
 use native.Mathlib.Omega.{arith}
 use lib.ListN.{length}
 use lib.Seq.{length-take-le}
-use Rattle.trace.specs.Script.{limit, byteAt, wordAt, bodyOf}
-use Rattle.trace.proofs.Records.{whole-next}
+use Rattle.script.specs.Script.{limit, byteAt, wordAt, bodyOf}
+use Rattle.script.proofs.Records.{whole-next}
 use Rattle.trace.proofs.play_all.Statement.{statement}
 use Rattle.trace.proofs.play_all.Tie as tie
 

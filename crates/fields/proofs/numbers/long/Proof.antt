@@ -2,7 +2,7 @@
 use mathlib.Core.Path.{refl}
 use native.Mathlib.Omega.{arith}
 use mir.Facts.{toZ-ofZ}
-use Rattle.fields.proofs.Signed.{returned}
+use Rattle.base.proofs.Signed.{returned}
 use Rattle.fields.proofs.numbers.long.Statement.{statement}
 use Rattle.fields.proofs.numbers.long.Tie as tie
 

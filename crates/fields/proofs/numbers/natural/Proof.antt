@@ -2,7 +2,8 @@
 use borrow.Author.Needs.{needs}
 use native.Mathlib.Omega.{arith}
 use mir.Facts.{toZ-ofZ}
-use Rattle.fields.proofs.Signed.{abs-below, negative-is, not-negative, low-is, high-is}
+use Rattle.base.proofs.Signed.{abs-below, not-negative}
+use Rattle.fields.proofs.Signed.{negative-is, low-is, high-is}
 use Rattle.fields.proofs.numbers.natural.Statement.{statement}
 use Rattle.fields.proofs.numbers.natural.Tie as tie
 

@@ -4,7 +4,7 @@ use mathlib.Core.Path.{refl}
 use Prim.Native.Nat.{_%_, _^_}
 use native.Mathlib.Omega.{arith}
 use lib.IntN.{pos}
-use Rattle.fields.proofs.Signed.{returned}
+use Rattle.base.proofs.Signed.{returned}
 use Rattle.fields.proofs.numbers.wide.Statement.{statement}
 use Rattle.fields.proofs.numbers.wide.Tie as tie
 

@@ -2,7 +2,7 @@
 use borrow.Author.Needs.{needs}
 use mathlib.Core.Path.{_≡_, _∙_}
 use lib.ListN.{length}
-use Rattle.fields.proofs.Signed.{returned}
+use Rattle.base.proofs.Signed.{returned}
 use Rattle.fields.proofs.Places.{control-is, bytes-is, clock-is, current-is, target-is, memory-is}
 use Rattle.fields.proofs.to_list.field.Statement.{statement}
 use Rattle.fields.proofs.to_list.field.Tie as tie

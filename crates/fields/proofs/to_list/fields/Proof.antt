@@ -6,7 +6,7 @@ use native.Mathlib.Omega.{arith}
 use lib.IntN.{pos}
 use lib.ListN.{length}
 use Rattle.fields.specs.Fields.{fieldsOf}
-use Rattle.fields.proofs.Signed.{returned}
+use Rattle.base.proofs.Signed.{returned}
 use Rattle.fields.proofs.Filling.{Filled, fill-none, fill-more, fill-all}
 use Rattle.fields.proofs.Places.{sixty-three}
 use Rattle.fields.proofs.to_list.fields.Statement.{statement}

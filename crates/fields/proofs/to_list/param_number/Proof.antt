@@ -5,7 +5,7 @@ use Prim.Native.Nat.{suc, _-_}
 use native.Mathlib.Omega.{arith}
 use Rattle.base.proofs.Range.{back}
 use Rattle.fields.specs.Fields.{paramNumbers, nth}
-use Rattle.fields.proofs.Signed.{returned}
+use Rattle.base.proofs.Signed.{returned}
 use Rattle.fields.proofs.to_list.param_number.Statement.{statement}
 use Rattle.fields.proofs.to_list.param_number.Tie as tie
 

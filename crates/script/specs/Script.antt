@@ -1,0 +1,55 @@
+-- Scripts: their records, and the numbers in these.
+use mathlib.Core.Bool.{cond, _&&_, _||_}
+use mathlib.Core.List.{List, []}
+use Prim.Native.Nat.{ℕ, suc, _+_, _*_, _-_, _^_}
+use lib.Dec.{eqb, leb, ltb}
+use lib.IntN.{ℤ, pos, negsuc}
+use lib.ListN.{length, getD, take, drop}
+use Rattle.script.specs.declared.Body.{Body}
+use Rattle.script.specs.declared.Body.the-variants.{Bytes, None}
+use Rattle.script.specs.declared.Record.{Record}
+use Rattle.script.specs.declared.Record.the-variants.{Whole, Bad}
+
+-- the most bytes of a script
+abbrev pub limit : ℕ
+limit = 1048576
+
+-- byte i, 0 past the end
+abbrev pub byteAt : List ℕ → ℕ → ℕ
+byteAt s i = getD s i 0
+
+-- the u32 from byte i on, little-endian
+unfoldable pub wordAt : List ℕ → ℕ → ℕ
+wordAt s i = byteAt s i + 256 * byteAt s (i + 1) + 65536 * byteAt s (i + 2) + 16777216 * byteAt s (i + 3)
+
+-- the number whose 64 bits in two's complement are n
+abbrev pub signed : ℕ → ℤ
+signed n = cond (ltb n (2 ^ 63)) (pos n) (negsuc (2 ^ 64 - suc n))
+
+-- the i64 from byte i on
+abbrev pub longAt : List ℕ → ℕ → ℤ
+longAt s i = signed (wordAt s i + 4294967296 * wordAt s (i + 4))
+
+-- the bytes from `from` on up to `end`, none where the script has not all of them
+abbrev pub partOf : List ℕ → ℕ → ℕ → List ℕ
+partOf s from end = cond (leb from end && leb end (length s)) (take (end - from) (drop from s)) []
+
+-- What follows a letter, of which `count` is the first u32: nothing after P, R and T; a byte after W; a u32 after F, A and U,
+-- of which U's is at most 8,192; 63 i64 after S; a u32 and that many bytes after I and V. No other letter begins a record.
+unfoldable pub bodyOf : ℕ → ℕ → Body
+bodyOf letter count =
+    cond (eqb letter 80 || eqb letter 82 || eqb letter 84) (Bytes 0)
+    (cond (eqb letter 87) (Bytes 1)
+    (cond (eqb letter 70 || eqb letter 65 || (eqb letter 85 && leb count 8192)) (Bytes 4)
+    (cond (eqb letter 83) (Bytes 504)
+    (cond (eqb letter 73 || eqb letter 86) (Bytes (4 + count))
+    None))))
+
+-- the record with this body from byte `start` on, in a script of n bytes
+abbrev pub recordOf : ℕ → ℕ → Body → Record
+recordOf n start None = Bad
+recordOf n start (Bytes size) = cond (leb size (n - start)) (Whole (start + size)) Bad
+
+-- the record that begins with byte `at`
+abbrev pub recordAt : List ℕ → ℕ → Record
+recordAt s at = recordOf (length s) (at + 1) (bodyOf (byteAt s at) (wordAt s (at + 1)))
