@@ -48,6 +48,15 @@ pub fn long_at(script: &[u8], at: usize) -> i64
     signed(word_at(script, at) as u64 + 0x1_0000_0000 * word_at(script, at + 4) as u64)
 }
 
+// How many samples a run has. No whole record has more than the limit.
+pub fn run_length(script: &[u8], at: usize) -> usize
+    requires { ⌜ at ≤ limit ⌝ }
+    ensures { λ r. ⌜ r ≤ 8192 ⌝ }
+{
+    let n = word_at(script, at);
+    if n < RUN_LIMIT { n } else { RUN_LIMIT }
+}
+
 // The part of a script from a byte on up to another; empty where there is none.
 pub fn part(script: &[u8], from: usize, end: usize) -> &[u8]
     ensures { λ r. ⌜ now r ≡ partOf (now (script .entry)) from end ⌝ }

@@ -17,10 +17,10 @@ use fields::from_list::of_fields;
 use rom::phrases::phrase;
 use rom::phrases::walk;
 use rom::reader::frame_taken;
-use script::RUN_LIMIT;
 use script::byte_at;
 use script::long_at;
 use script::part;
+use script::run_length;
 use script::word_at;
 use voice::checks::voice_check;
 
@@ -266,15 +266,6 @@ fn run_answer(refusal: u8, values: &[i16], out: &mut [u8], used: usize) -> usize
     let list = [TAKEN as u64, values.len() as u64];
     let p = head(out, used, b'U', &list);
     samples(out, p, values)
-}
-
-// How many samples a run has. No whole record has more than the limit.
-fn run_length(script: &[u8], at: usize) -> usize
-    requires { ⌜ at ≤ limit ⌝ }
-    ensures { λ r. ⌜ r ≤ 8192 ⌝ }
-{
-    let n = word_at(script, at);
-    if n < RUN_LIMIT { n } else { RUN_LIMIT }
 }
 
 // A run into a buffer, and its answers.
