@@ -12,3 +12,4 @@ pub mod Walking
 pub mod Theorems
 pub mod WalkAnswers
 pub mod Prefixed
+pub mod Lending

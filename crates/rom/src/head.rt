@@ -13,7 +13,7 @@ pub(crate) const SILENCE_CODE: u8 = 0;
 pub(crate) const STOP_CODE: u8 = 15;
 
 // What the kind of a frame is told by.
-pub(crate) struct Head {
+pub struct Head {
     pub energy: u8,
     pub repeat: u8,
     pub pitch: u8,

@@ -6,6 +6,7 @@ ghost use lib.ListN.{length};
 ghost use Rattle.rom.specs.Bits.{field};
 ghost use Rattle.rom.specs.Reader.{frameAt, bitAfter};
 use crate::bits::field_at;
+use crate::head::Head;
 use crate::head::Skipped;
 use crate::head::skip_frame;
 use crate::reader::Taken;
@@ -50,4 +51,21 @@ pub fn next_frame<'s, 'a>(r: &'s mut Lent<'a>, pitch_bits: usize) -> Taken
     let next = bit_after(image, at, pitch_bits);
     r.at = next;
     taken
+}
+
+// The head of the frame at bit `at`: its fields, read one after another by a reader made here, so a caller has no walk by hand.
+// It requires what `next_field` does at each of the three positions; the bound on the bit is that of `next_frame`.
+pub fn head_fields(image: &[u8], at: usize, pitch_bits: usize) -> Head
+    requires { ⌜ («pitch_bits» ≤ 8) × (at < 2 ^ 32 - 64) ⌝ }
+    ensures { λ r. ⌜ (r .energy ≡ field (now (image .entry)) at 4) × (r .repeat ≡ field (now (image .entry)) (at + 4) 1) × (r .pitch ≡ field (now (image .entry)) (at + 5) «pitch_bits») ⌝ }
+{
+    let mut r = Lent { image, at };
+    let energy = next_field(&mut r, 4);
+    let repeat = next_field(&mut r, 1);
+    let pitch = next_field(&mut r, pitch_bits);
+    Head {
+        energy,
+        repeat,
+        pitch,
+    }
 }

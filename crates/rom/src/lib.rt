@@ -1,7 +1,7 @@
 // The ROM side of document 01: the bits of an image, frames, the frame reader and the phrase walk.
 pub mod bits;
 pub mod frames;
-mod head;
+pub mod head;
 pub mod lent;
 pub mod phrases;
 pub mod reader;

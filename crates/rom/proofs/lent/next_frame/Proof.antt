@@ -1,4 +1,4 @@
--- `rom::lent::next_frame` meets its contract: a walk of its MIR, by hand, as that of `next_frame`, with two calls on the image and the position: `frame_at`, which gives the frame, and `bit_after`, which gives the new position. All that the proof knows of them is that each meets its contract.
+-- `rom::lent::next_frame` meets its contract: a walk of its MIR, by hand, as that of `next_field`, with two calls on the image and the position: `frame_at`, which gives the frame, and `bit_after`, which gives the new position. All that the proof knows of them is that each meets its contract.
 -- Assumes nothing.
 use mathlib.Core.Path.{_≡_, refl, ap}
 use Prim.Native.Nat.{ℕ, _-_, _<_, _≤_, _^_}
