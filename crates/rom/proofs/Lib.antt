@@ -12,4 +12,3 @@ pub mod Walking
 pub mod Theorems
 pub mod WalkAnswers
 pub mod Prefixed
-pub mod Lending

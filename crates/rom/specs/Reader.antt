@@ -56,11 +56,6 @@ abbrev pub skippedOf : Taken → Skipped
 skippedOf (Whole f next) = Past (isStop f) next
 skippedOf Cut = RanOut
 
--- the bit after a frame taken at bit `at`, or `at` itself where none is
-abbrev pub bitAfter : ℕ → Taken → ℕ
-bitAfter at (Whole f next) = next
-bitAfter at Cut = at
-
 -- a refused call: no frame, and zero for each number
 abbrev pub noFrame : ℕ → FrameTaken
 noFrame n = record { refusal = n; frame = None; bits = 0 }

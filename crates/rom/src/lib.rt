@@ -2,6 +2,5 @@
 pub mod bits;
 pub mod frames;
 pub mod head;
-pub mod lent;
 pub mod phrases;
 pub mod reader;

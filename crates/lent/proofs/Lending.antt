@@ -41,12 +41,12 @@ use denote.Triple.Clauses.{ensured, lasts}
 use denote.Triple.Spec.{tripleOf}
 use denote.Triple.Statement.{Contract, Triple}
 use denote.Triple.Walked.{says}
 use Rattle.rom.specs.Bits.{field}
-use Rattle.rom.specs.declared.lent.Lent.{Lent}
-use Rattle.rom.proofs.lent.Lent as T
-use Rattle.rom.proofs.lent.Lent.Laws as T′
-use Rattle.rom.proofs.lent.next_field.Symbol.{name as #next-field}
-use Rattle.rom.proofs.lent.next_field as next-field
+use Rattle.lent.specs.declared.Lent.{Lent}
+use Rattle.lent.proofs.Lent as T
+use Rattle.lent.proofs.Lent.Laws as T′
+use Rattle.lent.proofs.next_field.Symbol.{name as #next-field}
+use Rattle.lent.proofs.next_field as next-field
 
 -- the reader's type at 'a
 abbrev α : Lft → NamedLft

@@ -1,4 +1,4 @@
--- `rom::lent::next_frame` meets its contract: a walk of its MIR, by hand, as that of `next_field`, with two calls on the image and the position: `frame_at`, which gives the frame, and `bit_after`, which gives the new position. All that the proof knows of them is that each meets its contract.
+-- `lent::next_frame` meets its contract: a walk of its MIR, by hand, as that of `next_field`, with two calls on the image and the position: `frame_at`, which gives the frame, and `bit_after`, which gives the new position. All that the proof knows of them is that each meets its contract.
 -- Assumes nothing.
 use mathlib.Core.Path.{_≡_, refl, ap}
 use Prim.Native.Nat.{ℕ, _-_, _<_, _≤_, _^_}
@@ -45,25 +45,26 @@ use denote.Triple.Statement.{Contract, Triple}
 use denote.Triple.Table.{entered, cited}
 use denote.Triple.Walked.{says, needs, Stays, stay-ref, stay-none, walkOf, goes-none, goes-ref, Walks, ends-at, walked, walk-meets}
 use denote.Exit.{yes}
-use Rattle.rom.specs.Reader.{frameAt, bitAfter}
+use Rattle.rom.specs.Reader.{frameAt}
+use Rattle.lent.specs.After.{bitAfter}
 use Rattle.rom.specs.declared.reader.Taken.{Taken}
-use Rattle.rom.specs.declared.lent.Lent.{Lent}
-use Rattle.rom.proofs.lent.Lent as T
-use Rattle.rom.proofs.lent.Lent.Laws as T′
+use Rattle.lent.specs.declared.Lent.{Lent}
+use Rattle.lent.proofs.Lent as T
+use Rattle.lent.proofs.Lent.Laws as T′
 use Rattle.rom.proofs.reader.Taken as S
 use Rattle.rom.proofs.reader.Taken.Laws as S′
 use Rattle.rom.proofs.reader.frame_at as frame-at
 use Rattle.rom.proofs.reader.frame_at.Symbol as frame-at-def
 use Rattle.rom.proofs.reader.frame_at.Symbol.{name as #frame-at}
 use Rattle.rom.proofs.reader.frame_at.Met as frame-at-thm
-use Rattle.rom.proofs.lent.bit_after as bit-after
-use Rattle.rom.proofs.lent.bit_after.Symbol as bit-after-def
-use Rattle.rom.proofs.lent.bit_after.Symbol.{name as #bit-after}
-use Rattle.rom.proofs.lent.bit_after.Met as bit-after-thm
-use Rattle.rom.proofs.lent.next_frame.Key.{name as #next-frame}
-use Rattle.rom.proofs.lent.next_frame as next-frame
-use Rattle.rom.proofs.lent.next_frame.Statement as stated
-use Rattle.rom.proofs.lent.next_frame.Code as code
+use Rattle.lent.proofs.bit_after as bit-after
+use Rattle.lent.proofs.bit_after.Symbol as bit-after-def
+use Rattle.lent.proofs.bit_after.Symbol.{name as #bit-after}
+use Rattle.lent.proofs.bit_after.Met as bit-after-thm
+use Rattle.lent.proofs.next_frame.Key.{name as #next-frame}
+use Rattle.lent.proofs.next_frame as next-frame
+use Rattle.lent.proofs.next_frame.Statement as stated
+use Rattle.lent.proofs.next_frame.Code as code
 
 -- 'a, and the struct's type at it
 abbrev α : Lft → NamedLft
@@ -235,4 +236,4 @@ next-frame-spec 𝓤 H 𝓜 𝓖 𝓡 =
     (tables 𝓤 H 𝓜 𝓡 code.env .C) (tables 𝓤 H 𝓜 𝓡 code.env .Λ) #next-frame code.function (code.unfolded 𝓤 H 𝓜 𝓡)
     (next-frame-meets 𝓤 H (𝓖 .A) (givenOf 𝓤 H 𝓜 𝓖) (𝓜 .mem) (𝓡 .run) (tablesOf 𝓤 H 𝓜 (tables 𝓤 H 𝓜 𝓡 code.env))
     (cited 𝓤 H (FrameAt 𝓤 H (𝓖 .A) (𝓜 .mem) (𝓡 .run)) 𝓜 𝓡 code.env #frame-at frame-at-def.routine code.calls-rom·reader·frame-at (frame-at-thm.met 𝓤 H 𝓜 𝓖 𝓡))
-    (cited 𝓤 H (BitAfter 𝓤 H (𝓖 .A) (𝓜 .mem) (𝓡 .run)) 𝓜 𝓡 code.env #bit-after bit-after-def.routine code.calls-rom·lent·bit-after (bit-after-thm.met 𝓤 H 𝓜 𝓖 𝓡)))
+    (cited 𝓤 H (BitAfter 𝓤 H (𝓖 .A) (𝓜 .mem) (𝓡 .run)) 𝓜 𝓡 code.env #bit-after bit-after-def.routine code.calls-lent·bit-after (bit-after-thm.met 𝓤 H 𝓜 𝓖 𝓡)))

@@ -3,14 +3,13 @@
 ghost use mathlib.Core.Path.{_≡_};
 ghost use Prim.Native.Nat.{_+_, _-_, _≤_, _<_, _^_};
 ghost use lib.ListN.{length};
 ghost use Rattle.rom.specs.Bits.{field};
-ghost use Rattle.rom.specs.Reader.{frameAt, bitAfter};
-use crate::bits::field_at;
-use crate::head::Head;
-use crate::head::Skipped;
-use crate::head::skip_frame;
-use crate::reader::Taken;
-use crate::reader::frame_at;
+ghost use Rattle.rom.specs.Reader.{frameAt};
+ghost use Rattle.lent.specs.After.{bitAfter};
+use rom::bits::field_at;
+use rom::head::Head;
+use rom::reader::Taken;
+use rom::reader::frame_at;
 
 pub struct Lent<'a> {
     pub image: &'a [u8],
@@ -33,8 +32,8 @@ fn bit_after(s: &[u8], at: usize, pitch_bits: usize) -> usize
     requires { ⌜ («pitch_bits» ≤ 8) × (at < 2 ^ 32 - 64) × (length (now s) < 2 ^ 32) ⌝ }
     ensures { λ r. ⌜ r ≡ bitAfter at (frameAt «pitch_bits» (now (s .entry)) at) ⌝ }
 {
-    let skipped = skip_frame(s, at, pitch_bits);
-    let Skipped::Past(_, next) = skipped else {
+    let taken = frame_at(s, at, pitch_bits);
+    let Taken::Whole(_, next) = taken else {
         return at;
     };
     next

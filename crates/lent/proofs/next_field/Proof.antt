@@ -1,4 +1,4 @@
--- `rom::lent::next_field` meets its contract: a walk of its MIR, by hand. The borrow is opened; of what the reader owns, which is Copy, one copy goes to `field_at` and one is kept; the position is stored; and the borrow is closed at the reader that has moved on. All that the proof knows of `field_at` is that it meets its contract.
+-- `lent::next_field` meets its contract: a walk of its MIR, by hand. The borrow is opened; of what the reader owns, which is Copy, one copy goes to `field_at` and one is kept; the position is stored; and the borrow is closed at the reader that has moved on. All that the proof knows of `field_at` is that it meets its contract.
 -- Assumes nothing.
 use mathlib.Core.Path.{_≡_, refl}
 use Prim.Native.Nat.{ℕ, _<_, _≤_, _^_, _+_}
@@ -45,18 +45,18 @@ use denote.Triple.Statement.{Contract, Triple}
 use denote.Triple.Table.{entered, cited}
 use denote.Triple.Walked.{says, needs, Stays, stay-ref, stay-none, walkOf, goes-none, goes-ref, Walks, ends-at, walked, walk-meets}
 use denote.Exit.{yes}
 use Rattle.rom.specs.Bits.{field}
-use Rattle.rom.specs.declared.lent.Lent.{Lent}
-use Rattle.rom.proofs.lent.Lent as T
-use Rattle.rom.proofs.lent.Lent.Laws as T′
+use Rattle.lent.specs.declared.Lent.{Lent}
+use Rattle.lent.proofs.Lent as T
+use Rattle.lent.proofs.Lent.Laws as T′
 use Rattle.rom.proofs.bits.field_at as field-at
 use Rattle.rom.proofs.bits.field_at.Symbol as field-at-def
 use Rattle.rom.proofs.bits.field_at.Symbol.{name as #field-at}
 use Rattle.rom.proofs.bits.field_at.Met as field-at-thm
-use Rattle.rom.proofs.lent.next_field.Key.{name as #next-field}
-use Rattle.rom.proofs.lent.next_field as next-field
-use Rattle.rom.proofs.lent.next_field.Statement as stated
-use Rattle.rom.proofs.lent.next_field.Code as code
+use Rattle.lent.proofs.next_field.Key.{name as #next-field}
+use Rattle.lent.proofs.next_field as next-field
+use Rattle.lent.proofs.next_field.Statement as stated
+use Rattle.lent.proofs.next_field.Code as code
 
 -- 'a, and the struct's type at it
 abbrev α : Lft → NamedLft

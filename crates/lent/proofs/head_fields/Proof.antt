@@ -1,4 +1,4 @@
--- `rom::lent::head_fields` meets its contract: a walk of its MIR, by hand. The reader is made in a local, and lent to `next_field` three times by `Lending.antt`'s `reads`. All that the proof knows of `next_field` is that it meets its contract.
+-- `lent::head_fields` meets its contract: a walk of its MIR, by hand. The reader is made in a local, and lent to `next_field` three times by `Lending.antt`'s `reads`. All that the proof knows of `next_field` is that it meets its contract.
 -- Assumes nothing.
 use mathlib.Core.Path.{refl, ap}
 use Prim.Native.Nat.{ℕ, _-_, _<_, _≤_, _^_, _+_}
@@ -35,21 +35,21 @@ use denote.Triple.Statement.{Triple}
 use denote.Triple.Table.{entered, cited}
 use denote.Triple.Walked.{says, needs, Stays, stay-none, stay-none-slice, walkOf, goes-none, goes-none-slice, Walks, ends-at, walked, walk-meets}
 use denote.Exit.{yes}
 use Rattle.rom.specs.Bits.{field}
 use Rattle.rom.specs.declared.head.Head.{Head}
-use Rattle.rom.specs.declared.lent.Lent.{Lent}
-use Rattle.rom.proofs.Lending.{NextField, Own, moved, reads}
+use Rattle.lent.specs.declared.Lent.{Lent}
+use Rattle.lent.proofs.Lending.{NextField, Own, moved, reads}
 use Rattle.rom.proofs.head.Head as Made
 use Rattle.rom.proofs.head.Head.Laws as Made′
-use Rattle.rom.proofs.lent.Lent as T
-use Rattle.rom.proofs.lent.Lent.Laws as T′
-use Rattle.rom.proofs.lent.next_field.Symbol as next-field-def
-use Rattle.rom.proofs.lent.next_field.Symbol.{name as #next-field}
-use Rattle.rom.proofs.lent.next_field.Met as next-field-thm
-use Rattle.rom.proofs.lent.head_fields.Key.{name as #head-fields}
-use Rattle.rom.proofs.lent.head_fields as head-fields
-use Rattle.rom.proofs.lent.head_fields.Statement as stated
-use Rattle.rom.proofs.lent.head_fields.Code as code
+use Rattle.lent.proofs.Lent as T
+use Rattle.lent.proofs.Lent.Laws as T′
+use Rattle.lent.proofs.next_field.Symbol as next-field-def
+use Rattle.lent.proofs.next_field.Symbol.{name as #next-field}
+use Rattle.lent.proofs.next_field.Met as next-field-thm
+use Rattle.lent.proofs.head_fields.Key.{name as #head-fields}
+use Rattle.lent.proofs.head_fields as head-fields
+use Rattle.lent.proofs.head_fields.Statement as stated
+use Rattle.lent.proofs.head_fields.Code as code
 
 abbrev stayed : Stays (head-fields.ended .signature .params) (head-fields.ended .kept)
 stayed = (stay-none-slice (0 ∷ []) tt (plain (λ _. u8)) yes, (stay-none (λ _. usize) yes, (stay-none (λ _. usize) yes, tt)))
@@ -141,4 +141,4 @@ head-fields-spec 𝓤 H 𝓜 𝓖 𝓡 =
     entered 𝓤 H (tripleOf 𝓤 H (𝓖 .A) head-fields.signature (head-fields.spec 𝓤 H (𝓖 .A) (𝓜 .mem) (𝓡 .run)))
     (tables 𝓤 H 𝓜 𝓡 code.env .C) (tables 𝓤 H 𝓜 𝓡 code.env .Λ) #head-fields code.function (code.unfolded 𝓤 H 𝓜 𝓡)
     (head-fields-meets 𝓤 H (𝓖 .A) (givenOf 𝓤 H 𝓜 𝓖) (𝓜 .mem) (𝓡 .run) (tablesOf 𝓤 H 𝓜 (tables 𝓤 H 𝓜 𝓡 code.env))
-    (cited 𝓤 H (NextField 𝓤 H (𝓖 .A) (𝓜 .mem) (𝓡 .run)) 𝓜 𝓡 code.env #next-field next-field-def.routine code.calls-rom·lent·next-field (next-field-thm.met 𝓤 H 𝓜 𝓖 𝓡)))
+    (cited 𝓤 H (NextField 𝓤 H (𝓖 .A) (𝓜 .mem) (𝓡 .run)) 𝓜 𝓡 code.env #next-field next-field-def.routine code.calls-lent·next-field (next-field-thm.met 𝓤 H 𝓜 𝓖 𝓡)))
