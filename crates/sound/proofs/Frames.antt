@@ -12,7 +12,7 @@ use Rattle.rom.specs.declared.frames.Frame.{Frame}
 use Rattle.rom.specs.declared.frames.Frame.the-variants.{Silence, Stop, Repeat, Unvoiced, Voiced}
 use Rattle.voice.specs.Layout.{pitches}
 use Rattle.voice.specs.Valid.{InRange}
-use Rattle.sound.specs.Ranges.{TenBetween}
+use Rattle.filter.specs.Ranges.{TenBetween}
 use Rattle.sound.specs.Targets.{targetsOf}
 use Rattle.sound.specs.declared.params.Params.{Params}
 use Rattle.sound.proofs.Validity.{ParamsBetween}

@@ -1,6 +1,4 @@
-pub mod Elements
 pub mod Frames
-pub mod Lattice
 pub mod Laws
 pub mod Ranges
 pub mod Samples

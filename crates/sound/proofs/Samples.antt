@@ -12,7 +12,8 @@ use Rattle.base.specs.Range.{Between}
 use Rattle.base.specs.declared.units.Intervals.{Intervals}
 use Rattle.base.proofs.Range.{product, quotient}
 use Rattle.voice.proofs.Valid.{pulse-range}
-use Rattle.sound.specs.Filter.{forward, newMemory}
+use Rattle.filter.specs.Filter.{forward, newMemory}
+use Rattle.filter.proofs.Ranges.{memory-range}
 use Rattle.sound.specs.Interpolation.{divisor, interpolated}
 use Rattle.sound.specs.Noise.{nextNoise}
 use Rattle.sound.specs.Pulse.{nextPulse}
@@ -20,7 +21,7 @@ use Rattle.sound.specs.Sample.{isVoiced, excitationOf, inputOf, valueOf,
 use Rattle.sound.specs.declared.params.Params.{Params}
 use Rattle.sound.specs.declared.sample.Sampled.{Sampled}
 use Rattle.sound.specs.declared.state.Sound.{Sound}
-use Rattle.sound.proofs.Ranges.{memory-range, toward-between, toward-each-between}
+use Rattle.sound.proofs.Ranges.{toward-between, toward-each-between}
 use Rattle.sound.proofs.Taps.{noise-range}
 use Rattle.sound.proofs.Validity.{SoundRanges}
 

@@ -12,7 +12,7 @@ use lib.ListN.{length, getD, replicate}
 use Rattle.base.specs.Range.{Between, inside, allInside}
 use Rattle.base.proofs.Booleans.{both-true}
 use Rattle.base.proofs.Range.{tested, testing, all-tested, all-testing}
-use Rattle.sound.specs.Ranges.{tenInside, TenBetween}
+use Rattle.filter.specs.Ranges.{tenInside, TenBetween}
 use Rattle.sound.specs.State.{paramsInside, paramsValid, memoryValid, noiseValid, pulseValid, soundValid, restParams, restSound, zeroParams, atRest}
 use Rattle.sound.specs.declared.params.Params.{Params}
 use Rattle.sound.specs.declared.state.Sound.{Sound}

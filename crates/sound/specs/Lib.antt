@@ -1,9 +1,6 @@
-pub mod Ranges
 pub mod Interpolation
 pub mod Noise
 pub mod Pulse
-pub mod Filter
-pub mod Stages
 pub mod State
 pub mod Sample
 pub mod Targets

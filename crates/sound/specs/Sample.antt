@@ -8,7 +8,7 @@ use lib.Signed.{shrZ}
 use Rattle.base.specs.Range.{clamped}
 use Rattle.base.specs.Steps.{stateAfter, outputs}
 use Rattle.voice.specs.Layout.{pulseAt}
-use Rattle.sound.specs.Filter.{forward, newMemory}
+use Rattle.filter.specs.Filter.{forward, newMemory}
 use Rattle.sound.specs.Noise.{nextNoise}
 use Rattle.sound.specs.Pulse.{nextPulse}
 use Rattle.sound.specs.declared.state.Sound.{Sound}

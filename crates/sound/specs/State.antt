@@ -4,7 +4,7 @@ use lib.Dec.{eqb, leb}
 use lib.IntN.{ℤ, pos, negℤ}
 use lib.ListN.{replicate}
 use Rattle.base.specs.Range.{inside}
-use Rattle.sound.specs.Ranges.{tenInside}
+use Rattle.filter.specs.Ranges.{tenInside}
 use Rattle.sound.specs.declared.params.Params.{Params}
 use Rattle.sound.specs.declared.state.Sound.{Sound}
 

@@ -1,8 +1,8 @@
 // The parameters of the sound, and their ranges.
 ghost use mathlib.Core.Path.{_≡_};
 ghost use Rattle.sound.specs.State.{paramsInside, paramsValid, zeroParams};
-use crate::range::all_inside;
-use crate::range::is_inside;
+use filter::range::all_inside;
+use filter::range::is_inside;
 
 // Energy and pitch, and K1 to K10.
 pub struct Params {

@@ -4,15 +4,15 @@ ghost use mathlib.Core.Bool.{true};
 ghost use lib.ListN.{length};
 ghost use Rattle.base.specs.Range.{Between};
 ghost use Rattle.voice.specs.Layout.{pitches};
-ghost use Rattle.sound.specs.Filter.{forward, newMemory};
-ghost use Rattle.sound.specs.Ranges.{TenBetween};
+ghost use Rattle.filter.specs.Filter.{forward, newMemory};
+ghost use Rattle.filter.specs.Ranges.{TenBetween};
 ghost use Rattle.sound.specs.Sample.{isVoiced, excitationOf, inputOf, valueOf, sampled, soundAfter, valuesOf};
 ghost use Rattle.sound.specs.State.{soundValid};
-use crate::filter::filter;
 use crate::noise::next_noise;
 use crate::pulse::next_pulse;
-use crate::range::clamp;
 use crate::state::Sound;
+use filter::filter::filter;
+use filter::range::clamp;
 use voice::lookup::pulse;
 
 // The range of a sample: 10 signed bits.

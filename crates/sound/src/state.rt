@@ -1,10 +1,10 @@
 // The sound as a state: what moves with each sample, its ranges, and the sound at rest.
 ghost use mathlib.Core.Path.{_≡_};
 ghost use Rattle.sound.specs.State.{restSound, atRest, soundValid};
-use crate::filter::MEMORY_MAX;
-use crate::filter::MEMORY_MIN;
 use crate::params::Params;
-use crate::range::all_inside;
+use filter::filter::MEMORY_MAX;
+use filter::filter::MEMORY_MIN;
+use filter::range::all_inside;
 
 // The parameters in force and those aimed at, the filter's memory, the noise register and the pulse place.
 pub struct Sound {

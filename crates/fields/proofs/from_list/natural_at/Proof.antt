@@ -5,7 +5,7 @@ use lib.ListN.{getD}
 use mir.Facts.{toZ-ofZ}
 use mir.Syntax.{w64}
 use mir.Val.{SFits}
-use Rattle.sound.proofs.Elements.{each-fits}
+use Rattle.filter.proofs.Elements.{each-fits}
 use Rattle.fields.proofs.from_list.natural_at.Statement.{statement}
 use Rattle.fields.proofs.from_list.natural_at.Tie as tie
 

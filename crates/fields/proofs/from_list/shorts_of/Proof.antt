@@ -10,7 +10,7 @@ use mir.Facts.{toZ-ofZ}
 use mir.Syntax.{w64}
 use mir.Val.{SFits}
 use Rattle.base.proofs.Range.{back}
-use Rattle.sound.proofs.Elements.{each-fits}
+use Rattle.filter.proofs.Elements.{each-fits}
 use Rattle.fields.specs.Numbers.{short}
 use Rattle.fields.proofs.Filling.{Filled, fill-none, fill-more, fill-all, part-length, part-element}
 use Rattle.fields.proofs.from_list.shorts_of.Statement.{statement}

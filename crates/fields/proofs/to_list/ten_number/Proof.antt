@@ -5,8 +5,8 @@ use lib.ListN.{getD}
 use mir.Facts.{toZ-ofZ}
 use mir.Syntax.{w32}
 use mir.Val.{SFits}
-use Rattle.sound.proofs.Elements.{each-fits}
 use Rattle.base.proofs.Signed.{returned}
+use Rattle.filter.proofs.Elements.{each-fits}
 use Rattle.fields.proofs.to_list.ten_number.Statement.{statement}
 use Rattle.fields.proofs.to_list.ten_number.Tie as tie
 

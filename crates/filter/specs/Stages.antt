@@ -3,7 +3,7 @@ use mathlib.Core.List.{List, _∷_, _++_}
 use Prim.Native.Nat.{ℕ, suc}
 use lib.IntN.{ℤ, pos}
 use lib.ListN.{length, getD, set, take, drop}
-use Rattle.sound.specs.Filter.{forwardOf, memoryOf, forward, upperMemory}
+use Rattle.filter.specs.Filter.{forwardOf, memoryOf, forward, upperMemory}
 
 -- the stage at index i, below a stage with forward value f: its forward value
 abbrev pub stageForward : List ℤ → List ℤ → ℤ → ℕ → ℤ

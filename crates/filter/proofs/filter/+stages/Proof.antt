@@ -1,4 +1,4 @@
--- `sound::filter::stages` meets its contract: a stage, and then the stages below it. The measure is the number of stages left.
+-- `filter::filter::stages` meets its contract: a stage, and then the stages below it. The measure is the number of stages left.
 -- Assumes nothing.
 use borrow.Author.Needs.{needs}
 use mathlib.Core.Path.{sym, ap, _∙_}
@@ -9,15 +9,15 @@ use borrow.Fn.PlainCycle.{Measures, is, falls, and}
 use denote.Ref.{now}
 use Rattle.base.specs.Range.{Between}
 use Rattle.base.proofs.Range.{back, read, passed, wider}
-use Rattle.sound.specs.Stages.{lowestMemory}
-use Rattle.sound.proofs.Lattice.{lowest-none, lowest-more}
-use Rattle.sound.proofs.Ranges.{held-range, stage-range}
-use Rattle.sound.proofs.filter.stages.Reads as stages
-use Rattle.sound.proofs.filter.stages.Kinds as stages-kinds
-use Rattle.sound.proofs.filter.+stages.Lts-stages as stages-lts
-use Rattle.sound.proofs.filter.stage.Reads as stage-reads
-use Rattle.sound.proofs.filter.+stages.{statement}
-use Rattle.sound.proofs.filter.+stages.Tie.{close}
+use Rattle.filter.specs.Stages.{lowestMemory}
+use Rattle.filter.proofs.Lattice.{lowest-none, lowest-more}
+use Rattle.filter.proofs.Ranges.{held-range, stage-range}
+use Rattle.filter.proofs.filter.stages.Reads as stages
+use Rattle.filter.proofs.filter.stages.Kinds as stages-kinds
+use Rattle.filter.proofs.filter.+stages.Lts-stages as stages-lts
+use Rattle.filter.proofs.filter.stage.Reads as stage-reads
+use Rattle.filter.proofs.filter.+stages.{statement}
+use Rattle.filter.proofs.filter.+stages.Tie.{close}
 
 abbrev μ-stages : Measures 2 stages-kinds.ps ℕ
 μ-stages κs a = a .1 .1 .1 .0

@@ -1,4 +1,4 @@
--- `sound::filter::stage` meets its contract. Assumes nothing.
+-- `filter::filter::stage` meets its contract. Assumes nothing.
 use borrow.Author.Needs.{needs}
 use mathlib.Core.Path.{_≡_, sym}
 use native.Mathlib.Numerals.{add-one}
@@ -7,10 +7,10 @@ use denote.Ref.{now}
 use lib.Seq.{set-out}
 use Rattle.base.specs.Range.{Between}
 use Rattle.base.proofs.Range.{read, back, passed}
-use Rattle.sound.specs.Stages.{stageForward}
-use Rattle.sound.proofs.Ranges.{held-range}
-use Rattle.sound.proofs.filter.stage.Statement.{statement}
-use Rattle.sound.proofs.filter.stage.Tie as tie
+use Rattle.filter.specs.Stages.{stageForward}
+use Rattle.filter.proofs.Ranges.{held-range}
+use Rattle.filter.proofs.filter.stage.Statement.{statement}
+use Rattle.filter.proofs.filter.stage.Tie as tie
 
 forward-of-requires : tie.Need-forward-of-requires
 forward-of-requires c κs = let s = c .before .before in (passed tt (s .pre .0 .each (s .args .i)), passed tt (s .pre .1 .each (s .args .i)), passed tt (s .pre .2))

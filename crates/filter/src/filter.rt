@@ -2,9 +2,9 @@
 ghost use mathlib.Core.Path.{_≡_};
 ghost use Prim.Native.Nat.{_≤_, _<_};
 ghost use Rattle.base.specs.Range.{Between};
-ghost use Rattle.sound.specs.Filter.{scaled, forwardOf, memoryOf, forward, newMemory};
-ghost use Rattle.sound.specs.Ranges.{TenBetween};
-ghost use Rattle.sound.specs.Stages.{stageForward, stageMemory, lowestForward, lowestMemory};
+ghost use Rattle.filter.specs.Filter.{scaled, forwardOf, memoryOf, forward, newMemory};
+ghost use Rattle.filter.specs.Ranges.{TenBetween};
+ghost use Rattle.filter.specs.Stages.{stageForward, stageMemory, lowestForward, lowestMemory};
 use crate::range::clamp;
 
 const STAGES: usize = 10;
@@ -69,8 +69,9 @@ fn stages(k: &[i32; 10], memory: &mut [i32; 10], above: i32, left: usize) -> i32
     stages(k, memory, f, i)
 }
 
-// Forward value 1 of an input, with the memory renewed.
-pub(crate) fn filter(k: &[i32; 10], memory: &mut [i32; 10], input: i32) -> i32
+// Forward value 1 of an input, with the memory renewed. The caller has made sure that K and memory are in their ranges and
+// that the input comes from an energy and an excitation in theirs.
+pub fn filter(k: &[i32; 10], memory: &mut [i32; 10], input: i32) -> i32
     requires { ⌜ (TenBetween 512 511 (now k)) × (TenBetween 8192 8191 (now memory)) × (Between 130944 130944 input) ⌝ }
     ensures { λ r. ⌜ r ≡ forward (now (k .entry)) (now (memory .entry)) input ⌝ }
     ensures { λ r. ⌜ now (memory .exit) ≡ newMemory (now (k .entry)) (now (memory .entry)) input ⌝ }

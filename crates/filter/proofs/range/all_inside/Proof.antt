@@ -1,4 +1,4 @@
--- `sound::range::all_inside` meets its contract. The invariant: all are inside if those passed are and those left are.
+-- `filter::range::all_inside` meets its contract. The invariant: all are inside if those passed are and those left are.
 -- Assumes nothing.
 use borrow.Author.Needs.{needs}
 use mathlib.Core.Path.{_≡_, refl, sym, ap, _∙_}
@@ -15,9 +15,9 @@ use mir.Facts.{toZ-ofZ}
 use mir.Syntax.{w32}
 use mir.Val.{toZ, SFits}
 use Rattle.base.specs.Range.{allInside}
-use Rattle.sound.proofs.Elements.{each-fits}
-use Rattle.sound.proofs.range.all_inside.Statement.{statement}
-use Rattle.sound.proofs.range.all_inside.Tie as tie
+use Rattle.filter.proofs.Elements.{each-fits}
+use Rattle.filter.proofs.range.all_inside.Statement.{statement}
+use Rattle.filter.proofs.range.all_inside.Tie as tie
 
 abbrev Inv-loop : tie.InvT-loop
 Inv-loop low high zs all₀ i₀ all i =

@@ -1,7 +1,7 @@
 // Ranges of signed numbers.
 ghost use mathlib.Core.Path.{_≡_};
 ghost use Rattle.base.specs.Range.{inside, clamped};
-ghost use Rattle.sound.specs.Ranges.{tenInside};
+ghost use Rattle.filter.specs.Ranges.{tenInside};
 
 // z, or the end of low..high that it lies beyond.
 pub fn clamp(z: i32, low: i32, high: i32) -> i32

@@ -1,10 +1,10 @@
--- `sound::filter::memory_of` meets its contract. Assumes nothing.
+-- `filter::filter::memory_of` meets its contract. Assumes nothing.
 use borrow.Author.Needs.{needs}
 use mathlib.Core.Path.{_∙_}
 use Rattle.base.proofs.Range.{fits, read, back, sum}
-use Rattle.sound.proofs.Ranges.{scale-is}
-use Rattle.sound.proofs.filter.memory_of.Statement.{statement}
-use Rattle.sound.proofs.filter.memory_of.Tie as tie
+use Rattle.filter.proofs.Ranges.{scale-is}
+use Rattle.filter.proofs.filter.memory_of.Statement.{statement}
+use Rattle.filter.proofs.filter.memory_of.Tie as tie
 
 add-clamp : tie.Need-add-clamp
 add-clamp c =

@@ -1,8 +1,8 @@
--- `sound::range::clamp` meets its contract. Assumes nothing.
+-- `filter::range::clamp` meets its contract. Assumes nothing.
 use mir.Facts.{toZ-ofZ}
 use Rattle.base.specs.Range.{clamped}
-use Rattle.sound.proofs.range.clamp.Statement.{statement}
-use Rattle.sound.proofs.range.clamp.Tie as tie
+use Rattle.filter.proofs.range.clamp.Statement.{statement}
+use Rattle.filter.proofs.range.clamp.Tie as tie
 
 returns : tie.Need-returns
 unfolding clamped

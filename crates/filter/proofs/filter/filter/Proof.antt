@@ -1,11 +1,11 @@
--- `sound::filter::filter` meets its contract. Assumes nothing.
+-- `filter::filter::filter` meets its contract. Assumes nothing.
 use borrow.Author.Needs.{needs}
 use mathlib.Core.Path.{sym, _∙_}
 use denote.Ref.{now}
 use Rattle.base.proofs.Range.{read, back}
-use Rattle.sound.proofs.Lattice.{whole}
-use Rattle.sound.proofs.filter.filter.Statement.{statement}
-use Rattle.sound.proofs.filter.filter.Tie as tie
+use Rattle.filter.proofs.Lattice.{whole}
+use Rattle.filter.proofs.filter.filter.Statement.{statement}
+use Rattle.filter.proofs.filter.filter.Tie as tie
 
 returns : tie.Need-returns
 returns c =

@@ -1,7 +1,7 @@
--- `sound::filter::scale` meets its contract. Assumes nothing.
+-- `filter::filter::scale` meets its contract. Assumes nothing.
 use Rattle.base.proofs.Range.{fits, read, product, quotient}
-use Rattle.sound.proofs.filter.scale.Statement.{statement}
-use Rattle.sound.proofs.filter.scale.Tie as tie
+use Rattle.filter.proofs.filter.scale.Statement.{statement}
+use Rattle.filter.proofs.filter.scale.Tie as tie
 
 returns : tie.Need-returns
 returns c =

@@ -1,10 +1,10 @@
--- `sound::filter::forward_of` meets its contract. Assumes nothing.
+-- `filter::filter::forward_of` meets its contract. Assumes nothing.
 use borrow.Author.Needs.{needs}
 use mathlib.Core.Path.{_∙_}
 use Rattle.base.proofs.Range.{fits, read, back, difference}
-use Rattle.sound.proofs.Ranges.{scale-is}
-use Rattle.sound.proofs.filter.forward_of.Statement.{statement}
-use Rattle.sound.proofs.filter.forward_of.Tie as tie
+use Rattle.filter.proofs.Ranges.{scale-is}
+use Rattle.filter.proofs.filter.forward_of.Statement.{statement}
+use Rattle.filter.proofs.filter.forward_of.Tie as tie
 
 sub-clamp : tie.Need-sub-clamp
 sub-clamp c =

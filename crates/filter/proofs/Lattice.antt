@@ -9,8 +9,8 @@ use native.Mathlib.Omega.{arith}
 use lib.IntN.{ℤ, pos}
 use lib.ListN.{length, take, drop, getD, set, length-set, drop-of-length-le}
 use lib.Seq.{take-suc, take-set-le, length-take-le, take-all, take-at, take-length}
-use Rattle.sound.specs.Filter.{forwardOf, memoryOf, forward, upperMemory, newMemory}
-use Rattle.sound.specs.Stages.{stageForward, stageMemory, lowestForward, lowestMemory}
+use Rattle.filter.specs.Filter.{forwardOf, memoryOf, forward, upperMemory, newMemory}
+use Rattle.filter.specs.Stages.{stageForward, stageMemory, lowestForward, lowestMemory}
 
 -- ---- a stage more at the end: the stages below it see its forward value as their input
 

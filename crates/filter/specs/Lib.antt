@@ -1,0 +1,3 @@
+pub mod Ranges
+pub mod Filter
+pub mod Stages
