@@ -133,7 +133,7 @@ static int compare_random(int rounds)
     return 0;
 }
 
-/* ---- time: the processor's, the best of three, the versions in turn */
+/* ---- time: the processor's, the best of fifteen, the versions in turn */
 
 static double seconds(const struct workload *w, const struct version *v)
 {
@@ -148,7 +148,7 @@ static void time_both(const struct workload *w)
 {
     double by_c = 1e9, by_rattle = 1e9;
     w->prepare();
-    for (int i = 0; i < 3; i++) {
+    for (int i = 0; i < 15; i++) {
         double c = seconds(w, &plain), r = seconds(w, &proved);
         by_c = c < by_c ? c : by_c;
         by_rattle = r < by_rattle ? r : by_rattle;
