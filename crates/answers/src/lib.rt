@@ -4,9 +4,6 @@ ghost use mathlib.Core.Path.{_≡_};
 ghost use Prim.Native.Nat.{_≤_};
 ghost use lib.IntN.{natAbs};
 ghost use lib.ListN.{length};
-use chip::state::Chip;
-use chip::step::Report;
-use fields::to_list::fields;
 use rom::frames::Found;
 use rom::frames::numbers;
 
@@ -45,7 +42,7 @@ fn digits(out: &mut [u8], at: usize, n: u64) -> usize
 }
 
 // A space and a natural number.
-fn natural(out: &mut [u8], at: usize, n: u64) -> usize
+pub fn natural(out: &mut [u8], at: usize, n: u64) -> usize
     ensures { λ r. ⌜ r ≤ length (now (out .entry)) ⌝ }
 {
     let p = put(out, at, b' ');
@@ -87,7 +84,7 @@ fn magnitude(z: i64) -> u64
 }
 
 // A space and an integer.
-fn integer(out: &mut [u8], at: usize, z: i64) -> usize
+pub fn integer(out: &mut [u8], at: usize, z: i64) -> usize
     ensures { λ r. ⌜ r ≤ length (now (out .entry)) ⌝ }
 {
     let p = put(out, at, b' ');
@@ -128,24 +125,4 @@ pub fn frame(out: &mut [u8], at: usize, found: Found) -> usize
         p = natural(out, p, list[i] as u64);
     }
     p
-}
-
-// What a step reports: its number, and the frame's numbers.
-pub fn report(out: &mut [u8], at: usize, told: Report) -> usize
-    ensures { λ r. ⌜ r ≤ length (now (out .entry)) ⌝ }
-{
-    let p = natural(out, at, told.number() as u64);
-    frame(out, p, told.frame())
-}
-
-// The line `C`.
-pub fn chip_line(out: &mut [u8], at: usize, chip: Chip) -> usize
-    ensures { λ r. ⌜ r ≤ length (now (out .entry)) ⌝ }
-{
-    let list = fields(chip);
-    let mut p = put(out, at, b'C');
-    for i in 0..63 {
-        p = integer(out, p, list[i]);
-    }
-    put(out, p, b'\n')
 }

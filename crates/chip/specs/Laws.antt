@@ -1,4 +1,5 @@
--- What is proved of every operation: the ranges are kept.
+-- What is proved of every operation: the ranges are kept; and a step's control and report depend on the image and the control
+-- alone.
 use mathlib.Core.Path.{_≡_}
 use mathlib.Core.Bool.{true}
 use mathlib.Core.List.{List}
@@ -19,19 +20,19 @@ PowerUpValid = valid powerUp ≡ true
 abbrev pub WriteKeepsValid : Type 0
 WriteKeepsValid = (image : List ℕ) (c : Chip) (b : ℕ) → valid c ≡ true → valid (writeOf image c b .chip) ≡ true
 
--- and under every acknowledge and read
+-- and under every acknowledge
 abbrev pub AcknowledgeKeepsValid : Type 0
 AcknowledgeKeepsValid = (c : Chip) → valid c ≡ true → valid (acknowledgeOf c .chip) ≡ true
 
--- under every read
+-- and under every read
 abbrev pub ReadKeepsValid : Type 0
 ReadKeepsValid = (c : Chip) → valid c ≡ true → valid (readOf c .chip) ≡ true
 
--- and under every sample step and every run, with any image and voice file
+-- and under every sample step, with any image and voice file
 abbrev pub StepKeepsValid : Type 0
 StepKeepsValid = (image voice : List ℕ) (c : Chip) → valid c ≡ true → valid (stepOf image voice c .chip) ≡ true
 
--- under every run
+-- and under every run
 abbrev pub RunKeepsValid : Type 0
 RunKeepsValid = (image voice : List ℕ) (c : Chip) (n : ℕ) → valid c ≡ true → valid (runOf image voice c n .chip) ≡ true
 

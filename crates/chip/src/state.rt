@@ -35,6 +35,7 @@ impl Chip {
 
     pub const INTERVALS_PER_FRAME: u64 = Control::INTERVALS_PER_FRAME;
 
+    // Operation: power-up.
     pub fn power_up() -> Chip
         ensures { λ r. ⌜ r ≡ powerUp ⌝ }
     {

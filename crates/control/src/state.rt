@@ -1,4 +1,4 @@
-// The control's value: what the host sees and steers. Its device numbers, its parts and its counters.
+// The control's value: its parts, its device numbers and its counters.
 ghost use mathlib.Core.Path.{_≡_};
 ghost use Prim.Native.Nat.{_≤_};
 ghost use Rattle.control.specs.State.{emptyFifo, stopped, started};
@@ -43,7 +43,7 @@ pub struct Clock {
     pub interval: Intervals,
 }
 
-// All that the host sees and steers. Nothing in it depends on a voice file or on the sound.
+// All of the chip but its sound. Nothing in it depends on a voice file or on the sound.
 pub struct Control {
     pub mode: Mode,
     pub place: Place,
@@ -111,7 +111,8 @@ impl Clock {
         }
     }
 
-    // These three take counters in their ranges, so that no sum is out of range: a valid chip has such.
+    // `count_by`, `count` and `left_of_interval` take counters in their ranges, so that no sum is out of range: a valid chip has
+    // such.
     pub fn count_by(self, samples: u64) -> Clock
         requires { ⌜ (self .sample .0 ≤ 24) × (self .interval .0 ≤ 7) × (samples ≤ 25) ⌝ }
         ensures { λ r. ⌜ r ≡ countedBy samples self ⌝ }

@@ -1,5 +1,5 @@
-// A reader that stays on a lent image and holds its bit position. A function over such a struct is thin, for its proof is a
-// walk by hand: the work is done by the functions of `bits` and `reader`.
+// A reader that stays on a lent image and holds its bit position. A function over such a struct is thin, for its proof is written
+// by hand: the work is done by the functions of `rom::bits` and `rom::reader`.
 ghost use mathlib.Core.Path.{_≡_};
 ghost use Prim.Native.Nat.{_+_, _-_, _≤_, _<_, _^_};
 ghost use lib.ListN.{length};
@@ -52,7 +52,8 @@ pub fn next_frame<'s, 'a>(r: &'s mut Lent<'a>, pitch_bits: usize) -> Taken
     taken
 }
 
-// The head of the frame at bit `at`: its fields, read one after another by a reader made here, so a caller has no walk by hand.
+// The head of the frame at bit `at`: its fields, read one after another by a reader made here, so that no caller's
+// proof is by hand.
 // It requires what `next_field` does at each of the three positions; the bound on the bit is that of `next_frame`.
 pub fn head_fields(image: &[u8], at: usize, pitch_bits: usize) -> Head
     requires { ⌜ («pitch_bits» ≤ 8) × (at < 2 ^ 32 - 64) ⌝ }

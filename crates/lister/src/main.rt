@@ -39,7 +39,7 @@ fn write_listing(image: &[u8]) -> bool {
     write_lines(image, first.lines)
 }
 
-// An image has one byte more than the lister takes, so that a longer input is told from one that fits.
+// The buffer for the image has one byte more than the lister takes, so that a longer input is told from one that fits.
 fn main() {
     let mut image = [0u8; 65537];
     let input = read_all(&mut image);

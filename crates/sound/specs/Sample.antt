@@ -47,7 +47,7 @@ sampled N file s =
       value = valueOf (forward (s .current .k) (s .memory) input);
     }
 
--- samples one after another: the sound after n of them, and their values
+-- a sample as a step: the sound after it, and its value
 abbrev pub sampleStep : ℕ → List ℕ → Sound → Sound × ℤ
 sampleStep N file s = (sampled N file s .sound, sampled N file s .value)
 

@@ -4,6 +4,7 @@ ghost use Prim.Native.Nat.{_≤_};
 ghost use lib.ListN.{length};
 ghost use Rattle.script.specs.Script.{limit};
 
+mod lines;
 mod play;
 
 use answers::text;

@@ -2,12 +2,12 @@
 ghost use Prim.Native.Nat.{_≤_, _<_};
 ghost use lib.ListN.{length};
 ghost use Rattle.script.specs.Script.{limit};
-use answers::chip_line;
+use crate::lines::chip_line;
+use crate::lines::report;
 use answers::frame;
 use answers::head;
 use answers::line;
 use answers::put;
-use answers::report;
 use answers::sample;
 use answers::samples;
 use answers::text;

@@ -1,10 +1,10 @@
--- `answers::chip_line` meets its contract. Assumes nothing.
+-- `trace::lines::chip_line` meets its contract. Assumes nothing.
 use borrow.Author.Needs.{needs}
 use mathlib.Core.Path.{_≡_}
 use Prim.Native.Nat.{_-_, _≤_}
 use lib.ListN.{length}
-use Rattle.answers.proofs.chip_line.Statement.{statement}
-use Rattle.answers.proofs.chip_line.Tie as tie
+use Rattle.trace.proofs.lines.chip_line.Statement.{statement}
+use Rattle.trace.proofs.lines.chip_line.Tie as tie
 
 abbrev Inv-loop : tie.InvT-loop
 Inv-loop out₀ at list p₀ i₀ out p i = (i ≤ 63) × (p ≤ length out₀) × (length out ≡ length out₀)
