@@ -16,9 +16,9 @@ use Rattle.voice.specs.Layout.{pitches}
 use Rattle.sound.specs.Sample.{sampled, soundAfter, valuesOf, sampleStep as soundStep}
 use Rattle.sound.specs.Interpolation.{interpolated}
 use Rattle.sound.specs.declared.state.Sound.{Sound}
+use Rattle.control.specs.State.{withClock}
 use Rattle.control.specs.Counters.{countedBy, intervalBegins, leftOfInterval}
 use Rattle.control.specs.Validity.{speaks, clockValid}
-use Rattle.speech.specs.Advance.{withClock}
 use Rattle.speech.proofs.Moving.{advanced-within}
 use Rattle.chip.specs.Types.{Mode, Clock, Moved, Chip, Stepped}
 use Rattle.chip.specs.Step.{sounded, steps, stepFault}

@@ -7,8 +7,8 @@ use Rattle.base.specs.Refusals.{TAKEN, unlessFault}
 use Rattle.base.specs.Steps.{stateAfter, outputs}
 use Rattle.voice.specs.Layout.{pitches}
 use Rattle.sound.specs.Sample.{soundAfter}
+use Rattle.control.specs.State.{withClock}
 use Rattle.control.specs.Counters.{countedBy}
-use Rattle.speech.specs.Advance.{withClock}
 use Rattle.chip.specs.Types.{Chip, Ran}
 use Rattle.chip.specs.Step.{stepFault, stepOf}
 

@@ -1,21 +1,11 @@
 -- The power-up state, and the chip with one of its parts changed.
-use mathlib.Core.Bool.{false}
 use Rattle.sound.specs.State.{restSound}
-use Rattle.chip.specs.Types.{Mode, Idle, Place, Fifo, Port, Chip}
-use Rattle.control.specs.State.{emptyFifo, stopped, started}
+use Rattle.control.specs.State.{powerUpControl, started}
+use Rattle.chip.specs.Types.{Mode, Place, Fifo, Port, Chip}
 
 -- power-up (01, "Commands, FIFO, status"): idle, silent, empty FIFO, position 0, no data byte, no interrupt
 abbrev pub powerUp : Chip
-powerUp = record {
-  control = record {
-    mode = Idle;
-    place = record { position = 0; nibble = 0 };
-    fifo = emptyFifo;
-    port = record { pending = false; byte = 0; interrupt = false };
-    clock = stopped;
-  };
-  sound = restSound;
-}
+powerUp = record { control = powerUpControl; sound = restSound }
 
 -- the chip with another place in the ROM
 abbrev pub withPlace : Place → Chip → Chip

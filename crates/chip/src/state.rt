@@ -39,22 +39,7 @@ impl Chip {
     pub fn power_up() -> Chip
         ensures { λ r. ⌜ r ≡ powerUp ⌝ }
     {
-        let fifo = Fifo::empty();
-        let clock = Clock::stopped();
-        let control = Control {
-            mode: Mode::Idle,
-            place: Place {
-                position: 0,
-                nibble: 0,
-            },
-            fifo,
-            port: Port {
-                pending: false,
-                byte: 0,
-                interrupt: false,
-            },
-            clock,
-        };
+        let control = Control::power_up();
         let sound = Sound::at_rest();
         Chip { control, sound }
     }

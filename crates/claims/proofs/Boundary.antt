@@ -11,12 +11,13 @@ use Rattle.base.proofs.Booleans.{cond-true}
 use Rattle.rom.specs.Frames.{pitchBits}
 use Rattle.rom.specs.Reader.{frameAt}
 use Rattle.rom.specs.declared.reader.Taken.{Taken}
+use Rattle.control.specs.State.{withClock}
 use Rattle.control.specs.Counters.{counted, frameBegins}
 use Rattle.control.specs.declared.state.Mode.{Mode}
 use Rattle.control.specs.declared.state.Mode.the-variants.{Rom}
 use Rattle.control.specs.declared.state.Clock.{Clock}
 use Rattle.control.specs.declared.state.Control.{Control}
-use Rattle.speech.specs.Advance.{fromRom, withClock, boundaryIn, advanced}
+use Rattle.speech.specs.Advance.{fromRom, boundaryIn, advanced}
 use Rattle.speech.specs.declared.advance.Action.the-variants.{Silent, Continue}
 
 -- ---- the clock

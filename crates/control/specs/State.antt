@@ -1,8 +1,8 @@
--- The device's numbers, and the control's parts at rest.
+-- The device's numbers, the control's parts at rest, power-up, and the control with one of its parts changed.
 use mathlib.Core.Bool.{true, false}
 use Prim.Native.Nat.{ℕ}
 use lib.ListN.{replicate}
-use Rattle.control.specs.Types.{Fifo, Clock}
+use Rattle.control.specs.Types.{Mode, Idle, Place, Fifo, Port, Clock, Control}
 
 -- bytes of the FIFO
 abbrev pub fifoSize : ℕ
@@ -39,3 +39,33 @@ stopped = record { sounding = false; sample = record { 0 = 0 }; interval = recor
 -- and of one that starts to sound
 abbrev pub started : Clock
 started = record { sounding = true; sample = record { 0 = 0 }; interval = record { 0 = 0 } }
+
+-- power-up (01, "Commands, FIFO, status"): idle, silent, empty FIFO, position 0, no data byte, no interrupt
+abbrev pub powerUpControl : Control
+powerUpControl = record {
+  mode = Idle;
+  place = record { position = 0; nibble = 0 };
+  fifo = emptyFifo;
+  port = record { pending = false; byte = 0; interrupt = false };
+  clock = stopped;
+}
+
+-- the control in another mode
+abbrev pub withMode : Mode → Control → Control
+withMode m k = record { mode = m; place = k .place; fifo = k .fifo; port = k .port; clock = k .clock }
+
+-- with another place in the ROM
+abbrev pub withPlace : Place → Control → Control
+withPlace p k = record { mode = k .mode; place = p; fifo = k .fifo; port = k .port; clock = k .clock }
+
+-- with another FIFO
+abbrev pub withFifo : Fifo → Control → Control
+withFifo f k = record { mode = k .mode; place = k .place; fifo = f; port = k .port; clock = k .clock }
+
+-- with another port
+abbrev pub withPort : Port → Control → Control
+withPort p k = record { mode = k .mode; place = k .place; fifo = k .fifo; port = p; clock = k .clock }
+
+-- with another clock
+abbrev pub withClock : Clock → Control → Control
+withClock t k = record { mode = k .mode; place = k .place; fifo = k .fifo; port = k .port; clock = t }

@@ -1,7 +1,7 @@
-// The control's value: its parts, its device numbers and its counters.
+// The control's value: its parts, its device numbers, power-up, the control with one of its parts changed, and its counters.
 ghost use mathlib.Core.Path.{_≡_};
 ghost use Prim.Native.Nat.{_≤_};
-ghost use Rattle.control.specs.State.{emptyFifo, stopped, started};
+ghost use Rattle.control.specs.State.{emptyFifo, stopped, started, powerUpControl, withMode, withPlace, withFifo, withPort, withClock};
 ghost use Rattle.control.specs.Counters.{countedBy, counted, intervalBegins, frameBegins, leftOfInterval};
 use base::units::Intervals;
 use base::units::Samples;
@@ -76,6 +76,75 @@ impl Control {
     pub const SAMPLES_PER_INTERVAL: u64 = Intervals::SAMPLES;
 
     pub const INTERVALS_PER_FRAME: u64 = base::units::Frames::INTERVALS;
+
+    pub fn power_up() -> Control
+        ensures { λ r. ⌜ r ≡ powerUpControl ⌝ }
+    {
+        let fifo = Fifo::empty();
+        let clock = Clock::stopped();
+        Control {
+            mode: Mode::Idle,
+            place: Place {
+                position: 0,
+                nibble: 0,
+            },
+            fifo,
+            port: Port {
+                pending: false,
+                byte: 0,
+                interrupt: false,
+            },
+            clock,
+        }
+    }
+
+    pub fn with_mode(self, mode: Mode) -> Control
+        ensures { λ r. ⌜ r ≡ withMode mode self ⌝ }
+    {
+        let place = self.place;
+        let fifo = self.fifo;
+        let port = self.port;
+        let clock = self.clock;
+        Control {
+            mode,
+            place,
+            fifo,
+            port,
+            clock,
+        }
+    }
+
+    pub fn with_place(self, place: Place) -> Control
+        ensures { λ r. ⌜ r ≡ withPlace place self ⌝ }
+    {
+        let mut control = self;
+        control.place = place;
+        control
+    }
+
+    pub fn with_fifo(self, fifo: Fifo) -> Control
+        ensures { λ r. ⌜ r ≡ withFifo fifo self ⌝ }
+    {
+        let mut control = self;
+        control.fifo = fifo;
+        control
+    }
+
+    pub fn with_port(self, port: Port) -> Control
+        ensures { λ r. ⌜ r ≡ withPort port self ⌝ }
+    {
+        let mut control = self;
+        control.port = port;
+        control
+    }
+
+    pub fn with_clock(self, clock: Clock) -> Control
+        ensures { λ r. ⌜ r ≡ withClock clock self ⌝ }
+    {
+        let mut control = self;
+        control.clock = clock;
+        control
+    }
 }
 
 impl Fifo {

@@ -17,12 +17,12 @@ use Rattle.rom.specs.declared.frames.Frame.{Frame}
 use Rattle.rom.specs.declared.reader.Taken.{Taken}
 use Rattle.rom.specs.declared.reader.Taken.the-variants.{Whole, Cut}
 use Rattle.speech.specs.Types.{Mode, Idle, Rom, Waiting, External, Fifo, Port, Clock, Control, Action, Silent, Rest, RunOut, Begin, Continue, Moved}
-use Rattle.control.specs.State.{positionLimit, emptyFifo, stopped}
+use Rattle.control.specs.State.{positionLimit, emptyFifo, stopped, withClock}
 use Rattle.control.specs.Validity.{speaks, isIdle, allZero, fifoValid, portValid, clockValid}
 use Rattle.control.specs.Buffer.{usedUp}
 use Rattle.control.specs.Counters.{counted, frameBegins}
 use Rattle.control.proofs.Ranges.{ControlRanges, place-ranges, place-in-range, fifo-ranges, fifo-in-range}
-use Rattle.speech.specs.Advance.{raises, changed, taken, ranOut, fromRom, fromFifo, withClock, rested, boundaryIn, advanced}
+use Rattle.speech.specs.Advance.{raises, changed, taken, ranOut, fromRom, fromFifo, rested, boundaryIn, advanced}
 use Rattle.speech.proofs.Moving.{held, frame-inside}
 
 -- ---- the FIFO with bits gone

@@ -16,12 +16,12 @@ use Rattle.rom.specs.declared.reader.Taken.the-variants.{Whole, Cut}
 use Rattle.rom.proofs.CentralLaw.{central-law}
 use Rattle.rom.proofs.Encoding.{begins-room}
 use Rattle.speech.specs.Types.{Mode, External, Control, Silent, Continue, Moved}
-use Rattle.control.specs.State.{fifoSize, emptyFifo}
+use Rattle.control.specs.State.{fifoSize, emptyFifo, withClock}
 use Rattle.control.specs.Validity.{fifoValid, controlValid}
 use Rattle.control.specs.Buffer.{usedUp}
 use Rattle.control.specs.Counters.{counted, frameBegins}
 use Rattle.control.proofs.Ranges.{control-ranges, fifo-ranges}
-use Rattle.speech.specs.Advance.{taken, ranOut, fromRom, fromFifo, withClock, boundaryIn, advanced}
+use Rattle.speech.specs.Advance.{taken, ranOut, fromRom, fromFifo, boundaryIn, advanced}
 
 -- a frame that is taken whole is one of the table, and its bits end within the bytes
 pub frame-inside : (s : List ℕ) (at : ℕ) {next : ℕ} {f : Frame} {x : Taken} → x ≡ frameAt pitchBits s at → x ≡ Whole f next → Proper pitchBits f × (next ≤ 8 * length s)

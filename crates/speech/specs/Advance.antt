@@ -11,7 +11,7 @@ use Rattle.rom.specs.declared.frames.Frame.{Frame}
 use Rattle.rom.specs.declared.reader.Taken.{Taken}
 use Rattle.rom.specs.declared.reader.Taken.the-variants.{Whole, Cut}
 use Rattle.speech.specs.Types.{Mode, Idle, Rom, Waiting, External, Fifo, Clock, Control, Silent, Rest, RunOut, Begin, Continue, Moved}
-use Rattle.control.specs.State.{emptyFifo, stopped}
+use Rattle.control.specs.State.{emptyFifo, stopped, withClock}
 use Rattle.control.specs.Counters.{counted, frameBegins}
 use Rattle.control.specs.Validity.{speaks}
 use Rattle.control.specs.Buffer.{usedUp}
@@ -55,10 +55,6 @@ fromFifo k (Whole f next) =
     cond (isStop f || ltb next (8 * k .fifo .level)) (taken k f (k .place .position) (usedUp (k .fifo) next))
     (ranOut k (k .place .position) emptyFifo)
 fromFifo k Cut = ranOut k (k .place .position) emptyFifo
-
--- the control with another clock
-abbrev pub withClock : Clock → Control → Control
-withClock t k = record { mode = k .mode; place = k .place; fifo = k .fifo; port = k .port; clock = t }
 
 -- a frame boundary in idle or waiting puts the sound to rest
 abbrev pub rested : Control → Moved

@@ -8,7 +8,7 @@ ghost use Rattle.rom.specs.Frames.{pitchBits};
 ghost use Rattle.rom.specs.Reader.{frameAt};
 ghost use Rattle.control.specs.State.{positionLimit, fifoSize};
 ghost use Rattle.control.specs.Validity.{controlValid};
-ghost use Rattle.speech.specs.Advance.{raises, changed, taken, ranOut, fromRom, fromFifo, withClock, rested, boundaryIn, advanced};
+ghost use Rattle.speech.specs.Advance.{raises, changed, taken, ranOut, fromRom, fromFifo, rested, boundaryIn, advanced};
 use control::state::Clock;
 use control::state::Control;
 use control::state::Fifo;
@@ -154,18 +154,10 @@ fn from_fifo(control: Control) -> Moved
     }
 }
 
-fn with_clock(control: Control, clock: Clock) -> Control
-    ensures { λ r. ⌜ r ≡ withClock clock control ⌝ }
-{
-    let mut next = control;
-    next.clock = clock;
-    next
-}
-
 fn rest(control: Control) -> Moved
     ensures { λ r. ⌜ r ≡ rested control ⌝ }
 {
-    let next = with_clock(control, Clock::stopped());
+    let next = control.with_clock(Clock::stopped());
     Moved {
         control: next,
         action: Action::Rest,
@@ -198,7 +190,7 @@ pub fn advance(control: Control, image: &[u8]) -> Moved
         if first {
             boundary(control, image)
         } else {
-            let next = with_clock(control, clock.count());
+            let next = control.with_clock(clock.count());
             Moved {
                 control: next,
                 action: Action::Continue,

@@ -9,5 +9,4 @@ power-up-spec =
     (tie.spec
     (λ c κs. search needs)
     (λ c κs. search needs)
-    (λ c κs. search needs)
-    (λ c. rw (c .at-rest .ensures, c .before .stopped .ensures, c .before .before .empty .ensures)))
+    (λ c. rw (c .at-rest .ensures, c .before .power-up .ensures)))
