@@ -1,0 +1,163 @@
+-- A valid control stays valid under a taken byte, and a sound that is not put at rest sounds on or stays silent.
+-- Assumes nothing.
+use mathlib.Core.Path.{_≡_, refl, subst}
+use mathlib.Core.Bool.{Bool, true, false, cond, true≢false}
+use mathlib.Core.List.{List, [], _∷_}
+use Prim.Native.Nat.{ℕ, zero, suc, _+_, _*_, _/_, _%_, _≤_, _<_}
+use native.Mathlib.Numerals.{add-one}
+use native.Mathlib.Omega.{arith}
+use borrow.Author.Tests.{leb-true, eqb-true, eqb-false, not-false}
+use lib.Dec.{eqb}
+use lib.ListN.{length, drop, set, length-set}
+use Rattle.base.proofs.Booleans.{both-true}
+use Rattle.rom.specs.Bits.{imageLimit}
+use Rattle.rom.proofs.Checks.{valid-length}
+use Rattle.bus.specs.Types.{Mode, Idle, Rom, Waiting, External, Place, Fifo, Port, Clock, Control, Command, Nothing, ReadByte, ReadAndBranch, LoadAddress, Speak, SpeakExternal, Reset, Accepted}
+use Rattle.control.specs.State.{positionLimit, addressLimit, fifoSize, startLevel, powerUpControl}
+use Rattle.control.specs.Validity.{allZero, leastLevel, mostLevel, mostUsed, fifoValid, portValid, clockValid}
+use Rattle.control.specs.Addresses.{withNibble}
+use Rattle.control.specs.Buffer.{appended}
+use Rattle.control.specs.Commands.{commandOf, isReset, beyondAt, beyond}
+use Rattle.control.proofs.Ranges.{ControlRanges, control-ranges, control-in-ranges, place-ranges, place-in-range, fifo-ranges, fifo-in-range}
+use Rattle.bus.specs.Commands.{soundKept, talking, reset, obeyed}
+use Rattle.bus.specs.Accept.{buffered, acceptedIn, accepted}
+use Rattle.bus.specs.Laws.{AcceptKeepsValid, SoundingKept}
+use Rattle.bus.proofs.Accepting.{room}
+
+power-up-ranges : ControlRanges powerUpControl
+power-up-ranges = record { place = refl; fifo = refl; port = refl; clock = refl }
+
+-- ---- the commands
+
+nibble-small : (a i v : ℕ) → withNibble a i v < addressLimit
+nibble-small a i v = omega arith
+
+module _ (image : List ℕ) (small : length image ≤ imageLimit) (k : Control) (r : ControlRanges k) (idle : k .mode ≡ Idle) where
+  ranges : (k .place .position ≤ positionLimit) × (k .place .nibble ≤ 4)
+  ranges = place-ranges (k .place) (r .place)
+
+  -- what a command leaves, but for Reset: the FIFO is the old one
+  moved : {m : Mode} {p : Place} {q : Port} {t : Clock} → (p .position ≤ positionLimit) × (p .nibble ≤ 4) → fifoValid m (k .fifo) ≡ true
+      → portValid m q ≡ true → clockValid m t ≡ true → ControlRanges (record { mode = m; place = p; fifo = k .fifo; port = q; clock = t })
+  moved l f q t = record { place = place-in-range _ (l .0) (l .1); fifo = f; port = q; clock = t }
+
+  empty : fifoValid Idle (k .fifo) ≡ true
+  empty = subst (λ (m : Mode). fifoValid m (k .fifo) ≡ true) idle (r .fifo)
+
+  -- the empty FIFO is valid in waiting too
+  waiting : fifoValid Waiting (k .fifo) ≡ true
+  waiting =
+      let f = fifo-ranges Idle (k .fifo) empty in
+      fifo-in-range Waiting (k .fifo) (record { least = f .least; most = omega (arith, f .most); used = f .used; size = f .size; clear = f .clear })
+
+  obeyed-ranges : (b : ℕ) (c : Command) → beyondAt image (k .place .position) c ≡ false → ControlRanges (obeyed image k b c .control)
+  obeyed-ranges b Nothing h = moved ranges (r .fifo) refl (r .clock)
+  obeyed-ranges b ReadByte h =
+      let e = leb-true (k .place .position + 8) (8 * length image) (not-false _ h) in
+      moved (omega (arith, e)) (r .fifo) (rw idle) (r .clock)
+  obeyed-ranges b ReadAndBranch h =
+      let e = leb-true (k .place .position / 8 + 2) (length image) (not-false _ h) in
+      moved (omega (arith, e)) (r .fifo) refl (r .clock)
+  obeyed-ranges b LoadAddress h =
+      moved (omega (arith, nibble-small (k .place .position / 8 % addressLimit) (k .place .nibble) (b % 16))) (r .fifo) refl (r .clock)
+  obeyed-ranges b Speak h = moved (omega (arith, ranges)) empty refl refl
+  obeyed-ranges b SpeakExternal h =
+      moved (omega (arith, ranges)) waiting refl (subst (λ (m : Mode). clockValid m (k .clock) ≡ true) idle (r .clock))
+  obeyed-ranges b Reset h = power-up-ranges
+
+-- ---- bytes for the FIFO
+
+all-zero-tail : (l : List ℕ) (n : ℕ) → allZero (drop n l) ≡ true → allZero (drop (suc n) l) ≡ true
+all-zero-tail [] zero h = refl
+all-zero-tail [] (suc n) h = refl
+all-zero-tail (x ∷ l) zero h = both-true (eqb x 0) (allZero l) h .1
+all-zero-tail (x ∷ l) (suc n) h = all-zero-tail l n h
+
+drop-set : (l : List ℕ) (n x : ℕ) → drop (suc n) (set l n x) ≡ drop (suc n) l
+drop-set [] n x = refl
+drop-set (y ∷ l) zero x = refl
+drop-set (y ∷ l) (suc n) x = drop-set l n x
+
+appended-valid : (m m′ : Mode) (f : Fifo) (b : ℕ) → fifoValid m f ≡ true
+    → leastLevel m′ ≤ f .level + 1 → f .level + 1 ≤ mostLevel m′ → mostUsed m ≤ mostUsed m′ → fifoValid m′ (appended f b) ≡ true
+appended-valid m m′ f b h l u v =
+    let r = fifo-ranges m f h in
+    fifo-in-range m′ (appended f b) (record {
+      least = l;
+      most = u;
+      used = omega (arith, r .used);
+      size = simp length-set (r .size);
+      clear = rw (add-one, drop-set (f .bytes) (f .level) b) (all-zero-tail (f .bytes) (f .level) (r .clear));
+    })
+
+-- ---- a taken byte
+
+module _ (image : List ℕ) (small : length image ≤ imageLimit) (k : Control) (r : ControlRanges k) (b : ℕ) where
+  buffered-ranges : fifoValid (k .mode) (appended (k .fifo) b) ≡ true → ControlRanges (buffered k b)
+  buffered-ranges h = record { place = r .place; fifo = h; port = r .port; clock = r .clock }
+
+  accepted-ranges : (m : Mode) → k .mode ≡ m → k .fifo .level < fifoSize → beyond m image (k .place .position) (commandOf b) ≡ false
+      → ControlRanges (acceptedIn m image k b .control)
+  accepted-ranges Idle e l h = obeyed-ranges image small k r e b (commandOf b) h
+  accepted-ranges Rom e l h = go (isReset (commandOf b))
+    where
+      go : (t : Bool) → ControlRanges (cond t reset (soundKept k) .control)
+      go true = power-up-ranges
+      go false = r
+  accepted-ranges Waiting e l h = go (eqb (k .fifo .level + 1) startLevel) refl
+    where
+      held : fifoValid Waiting (k .fifo) ≡ true
+      held = subst (λ (m : Mode). fifoValid m (k .fifo) ≡ true) e (r .fifo)
+
+      go : (t : Bool) → eqb (k .fifo .level + 1) startLevel ≡ t
+          → ControlRanges (cond t (talking External (buffered k b)) (soundKept (buffered k b)) .control)
+      go true t =
+          let n = eqb-true (k .fifo .level + 1) startLevel t in
+          record {
+            place = r .place;
+            fifo = appended-valid Waiting External (k .fifo) b held (omega arith) (omega arith) (omega arith);
+            port = subst (λ (m : Mode). portValid m (k .port) ≡ true) e (r .port);
+            clock = refl;
+          }
+      go false t =
+          let n = eqb-false (k .fifo .level + 1) startLevel t in
+          let u = fifo-ranges Waiting (k .fifo) held .most in
+          buffered-ranges (rw e (appended-valid Waiting Waiting (k .fifo) b held (omega arith) (omega (arith, n, u)) (omega arith)))
+  accepted-ranges External e l h =
+      buffered-ranges (rw e (appended-valid External External (k .fifo) b (subst (λ (m : Mode). fifoValid m (k .fifo) ≡ true) e (r .fifo)) (omega arith) (omega arith) (omega arith)))
+
+pub accept-keeps-valid : AcceptKeepsValid
+unfolding accepted
+accept-keeps-valid image k b i v w h =
+    control-in-ranges _ (accepted-ranges image (valid-length image i .1) k (control-ranges k v) b (k .mode) refl (room k (commandOf b) v w) h)
+
+-- ---- whether the chip sounds
+
+-- where the sound does not go to rest
+abbrev SameSounding : Control → Accepted → Type 0
+SameSounding k a = a .rests ≡ false → a .control .clock .sounding ≡ k .clock .sounding
+
+module _ (image : List ℕ) (k : Control) (b : ℕ) where
+  obeyed-sounding : (c : Command) → SameSounding k (obeyed image k b c)
+  obeyed-sounding Nothing h = refl
+  obeyed-sounding ReadByte h = refl
+  obeyed-sounding ReadAndBranch h = refl
+  obeyed-sounding LoadAddress h = refl
+  obeyed-sounding Speak h = absurd (true≢false h)
+  obeyed-sounding SpeakExternal h = refl
+  obeyed-sounding Reset h = absurd (true≢false h)
+
+  -- a byte that puts the sound at rest, or keeps the clock
+  either : (t : Bool) (a : Accepted) (d : Control) → a .rests ≡ true → d .clock ≡ k .clock → SameSounding k (cond t a (soundKept d))
+  either true a d e f h = absurd (true≢false (rw e at h))
+  either false a d e f h = rw f
+
+  accepted-sounding : (m : Mode) → SameSounding k (acceptedIn m image k b)
+  accepted-sounding Idle = obeyed-sounding (commandOf b)
+  accepted-sounding Rom = either (isReset (commandOf b)) reset k refl refl
+  accepted-sounding Waiting = either (eqb (k .fifo .level + 1) startLevel) (talking External (buffered k b)) (buffered k b) refl refl
+  accepted-sounding External = λ h. refl
+
+pub sounding-kept : SoundingKept
+unfolding accepted
+sounding-kept image k b = accepted-sounding image k b (k .mode)

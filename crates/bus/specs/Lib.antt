@@ -1,0 +1,4 @@
+pub mod Types
+pub mod Commands
+pub mod Accept
+pub mod Laws

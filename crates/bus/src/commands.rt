@@ -1,0 +1,88 @@
+// What each command does, in idle.
+ghost use mathlib.Core.Path.{_≡_};
+ghost use Prim.Native.Nat.{_≤_};
+ghost use Rattle.control.specs.State.{positionLimit};
+ghost use Rattle.bus.specs.Commands.{soundKept, talking, reset, dataDropped, dataTaken, obeyed};
+use control::commands::Command;
+use control::state::Clock;
+use control::state::Control;
+use control::state::Mode;
+use control::state::Port;
+use rom::bits::field_at;
+
+// The control after a taken byte, and whether the sound goes to rest.
+pub struct Accepted {
+    pub control: Control,
+    pub rests: bool,
+}
+
+pub(crate) fn sound_kept(control: Control) -> Accepted
+    ensures { λ r. ⌜ r ≡ soundKept control ⌝ }
+{
+    Accepted {
+        control,
+        rests: false,
+    }
+}
+
+// TS rises: a speaking mode, the sound at rest and started.
+pub(crate) fn talk(control: Control, mode: Mode) -> Accepted
+    ensures { λ r. ⌜ r ≡ talking mode control ⌝ }
+{
+    let next = control.with_mode(mode).with_clock(Clock::started());
+    Accepted {
+        control: next,
+        rests: true,
+    }
+}
+
+pub(crate) fn reset() -> Accepted
+    ensures { λ r. ⌜ r ≡ reset ⌝ }
+{
+    let control = Control::power_up();
+    Accepted {
+        control,
+        rests: true,
+    }
+}
+
+fn drop_data(control: Control) -> Control
+    ensures { λ r. ⌜ r ≡ dataDropped control ⌝ }
+{
+    let port = control.port;
+    control.with_port(port.no_data())
+}
+
+// The port with the byte at the position as its data.
+fn take_data(control: Control, image: &[u8]) -> Port
+    requires { ⌜ control .place .position ≤ positionLimit ⌝ }
+    ensures { λ r. ⌜ r ≡ dataTaken (now (image .entry)) control ⌝ }
+{
+    let position = control.place.position;
+    Port {
+        pending: true,
+        byte: field_at(image, position, 8),
+        interrupt: control.port.interrupt,
+    }
+}
+
+// What a command does.
+pub(crate) fn obey(control: Control, image: &[u8], byte: u8, command: Command) -> Accepted
+    requires { ⌜ (control .place .position ≤ positionLimit) × (control .place .nibble ≤ 4) ⌝ }
+    ensures { λ r. ⌜ r ≡ obeyed (now (image .entry)) control byte command ⌝ }
+{
+    let place = control.place;
+    let dropped = drop_data(control);
+    match command {
+        Command::Nothing => sound_kept(dropped),
+        Command::ReadByte => {
+            let port = take_data(control, image);
+            sound_kept(control.with_port(port).with_place(place.past_byte()))
+        }
+        Command::ReadAndBranch => sound_kept(dropped.with_place(place.branch(image))),
+        Command::LoadAddress => sound_kept(dropped.with_place(place.load(byte % 16))),
+        Command::Speak => talk(dropped.with_place(place.restart()), Mode::Rom),
+        Command::SpeakExternal => sound_kept(dropped.with_mode(Mode::Waiting)),
+        Command::Reset => reset(),
+    }
+}
