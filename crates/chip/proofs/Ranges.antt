@@ -1,14 +1,15 @@
 -- What a valid chip's fields are, from the tests.
 -- Assumes nothing.
-use mathlib.Core.Path.{_≡_}
-use mathlib.Core.Bool.{true, _&&_, _||_}
+use mathlib.Core.Path.{_≡_, refl}
+use mathlib.Core.Bool.{Bool, true, false, _&&_, _||_}
 use Prim.Native.Nat.{_≤_}
 use Rattle.base.proofs.Booleans.{both-true}
-use Rattle.sound.specs.State.{soundValid, atRest}
+use Rattle.sound.specs.State.{soundValid, restSound, atRest}
+use Rattle.sound.proofs.Laws.{stays-valid, rest-exactly}
 use Rattle.control.specs.State.{positionLimit}
 use Rattle.control.specs.Validity.{controlValid}
 use Rattle.control.proofs.Ranges.{ControlRanges, control-ranges, control-in-ranges, place-ranges, clock-ranges, FifoRanges, fifo-ranges}
-use Rattle.chip.specs.Types.{Chip}
+use Rattle.chip.specs.Types.{Control, Chip}
 use Rattle.chip.specs.Validity.{valid}
 
 -- the conditions of a valid chip
@@ -39,3 +40,11 @@ valid-fifo c h = fifo-ranges _ _ (chip-ranges c h .control .fifo)
 pub in-ranges : (c : Chip) → ChipRanges c → valid c ≡ true
 unfolding valid
 in-ranges c r = rw (control-in-ranges (c .control) (r .control), r .sound, r .quiet)
+
+-- a sound at rest is valid with every valid control
+pub at-rest : (k : Control) → ControlRanges k → ChipRanges (record { control = k; sound = restSound })
+at-rest k h = record { control = h; sound = stays-valid .rest; quiet = rw (rest-exactly restSound .test refl) (either (k .clock .sounding)) }
+  where
+    either : (t : Bool) → (t || true) ≡ true
+    either true = refl
+    either false = refl

@@ -4,10 +4,9 @@ use mathlib.Core.Path.{_≡_, refl}
 use Prim.Native.Nat.{ℕ}
 use borrow.Author.Tests.{eq-eqb, ne-eqb}
 use Rattle.base.proofs.Faults.{answered, refused-with}
-use Rattle.control.specs.Status.{busByte, acknowledgedPort}
-use Rattle.chip.specs.Types.{Chip, Acknowledged}
-use Rattle.chip.specs.State.{withPort}
-use Rattle.chip.specs.Read.{readFault, notAcknowledged, acknowledgeOf, readOf}
+use Rattle.control.specs.Status.{busByte}
+use Rattle.chip.specs.Types.{Control, Chip, Acknowledged}
+use Rattle.chip.specs.Read.{readFault, notAcknowledged, acknowledged, acknowledgeOf, readOf}
 
 module _ (c : Chip) where
   module _ {n : ℕ} (e : n ≡ readFault c) where
@@ -15,7 +14,8 @@ module _ (c : Chip) where
     unfolding acknowledgeOf
     acknowledge-refused h = refused-with e (notAcknowledged c) _ h refl
 
-    pub acknowledge-taken : {d : Chip} → n ≡ 0 → d ≡ withPort (acknowledgedPort (c .control .port)) c → record { chip = d; refusal = 0 } ≡ acknowledgeOf c
+    pub acknowledge-taken : {k : Control} → n ≡ 0 → k ≡ acknowledged (c .control)
+        → record { chip = record { control = k; sound = c .sound }; refusal = 0 } ≡ acknowledgeOf c
     unfolding acknowledgeOf
     acknowledge-taken h w = answered e (notAcknowledged c) _ h (rw w)
 

@@ -12,10 +12,10 @@ use Rattle.rom.specs.declared.frames.Frame.{Frame}
 use Rattle.rom.proofs.Checks.{valid-length}
 use Rattle.voice.specs.Check.{voiceFault, version}
 use Rattle.voice.specs.Layout.{pitches}
-use Rattle.sound.specs.State.{soundValid, restSound, atRest}
+use Rattle.sound.specs.State.{soundValid}
 use Rattle.sound.specs.Interpolation.{interpolated}
 use Rattle.sound.specs.declared.state.Sound.{Sound}
-use Rattle.sound.proofs.Laws.{stays-valid, rest-exactly}
+use Rattle.sound.proofs.Laws.{stays-valid}
 use Rattle.chip.specs.Types.{Clock, Control, Action, Silent, Rest, RunOut, Begin, Continue, Chip, Stepped}
 use Rattle.control.specs.Counters.{intervalBegins}
 use Rattle.control.proofs.Ranges.{ControlRanges}
@@ -25,13 +25,10 @@ use Rattle.chip.specs.Validity.{valid}
 use Rattle.chip.specs.Step.{played, sounded, steps, stepFault, stepOf}
 use Rattle.chip.specs.Run.{sampleStep, runOf}
 use Rattle.chip.specs.Laws.{StepKeepsValid, RunKeepsValid}
-use Rattle.chip.proofs.Ranges.{ChipRanges, chip-ranges, in-ranges}
+use Rattle.chip.proofs.Ranges.{ChipRanges, chip-ranges, in-ranges, at-rest}
 use Rattle.chip.proofs.Stepping.{Passed, passed, no-fault}
 
 -- ---- the sound
-
-rest-at-rest : atRest restSound ≡ true
-rest-at-rest = rest-exactly restSound .test refl
 
 played-valid : (voice : List ℕ) (t : Clock) (s : Sound) → soundValid s ≡ true → soundValid (played voice t s .sound) ≡ true
 played-valid voice t s h = stays-valid .sample pitches voice _ (go (intervalBegins t))
@@ -47,8 +44,8 @@ module _ (voice : List ℕ) (voiced : voiceFault pitches version voice ≡ 0) (c
   after-kept : (a : Action) → Asked (c .control .clock .sounding) (k .clock .sounding) a
       → ChipRanges (record { control = k; sound = sounded voice (c .control .clock) a (c .sound) .sound })
   after-kept Silent e = record { control = h; sound = r .sound; quiet = rw e (r .quiet) }
-  after-kept Rest e = record { control = h; sound = stays-valid .rest; quiet = rw (e, rest-at-rest) }
-  after-kept RunOut e = record { control = h; sound = stays-valid .rest; quiet = rw (e, rest-at-rest) }
+  after-kept Rest e = at-rest k h
+  after-kept RunOut e = at-rest k h
   after-kept (Begin f) e =
       record {
         control = h;

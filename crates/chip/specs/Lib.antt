@@ -1,7 +1,6 @@
 pub mod Types
 pub mod State
 pub mod Validity
-pub mod Commands
 pub mod Write
 pub mod Read
 pub mod Step

@@ -4,9 +4,9 @@ use mathlib.Core.List.{[], _∷_}
 use Prim.Native.Nat.{ℕ}
 use lib.Dec.{eqb}
 use Rattle.base.specs.Refusals.{TAKEN, STATE, firstFault, unlessFault}
+use Rattle.control.specs.State.{withPort}
 use Rattle.control.specs.Status.{busByte, acknowledgedPort}
-use Rattle.chip.specs.Types.{Chip, Acknowledged, ByteRead}
-use Rattle.chip.specs.State.{withPort}
+use Rattle.chip.specs.Types.{Control, Chip, Acknowledged, ByteRead}
 use Rattle.chip.specs.Validity.{valid}
 
 -- the fault of a read: 4
@@ -17,11 +17,15 @@ readFault c = firstFault ((not (valid c), STATE) ∷ [])
 abbrev pub notAcknowledged : Chip → ℕ → Acknowledged
 notAcknowledged c n = record { chip = c; refusal = n }
 
--- what a bus read does to the state
+-- what a bus read does to the control
+abbrev pub acknowledged : Control → Control
+acknowledged k = withPort (acknowledgedPort (k .port)) k
+
+-- what it does to the state
 unfoldable pub acknowledgeOf : Chip → Acknowledged
 acknowledgeOf c =
     unlessFault (readFault c) (notAcknowledged c)
-    (record { chip = withPort (acknowledgedPort (c .control .port)) c; refusal = TAKEN })
+    (record { chip = record { control = acknowledged (c .control); sound = c .sound }; refusal = TAKEN })
 
 -- a byte read: the byte that the bus gets, with the acknowledge; refused, the byte is 0
 unfoldable pub readOf : Chip → ByteRead

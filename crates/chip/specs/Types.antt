@@ -8,6 +8,7 @@ pub use Rattle.control.specs.declared.state.Clock.{Clock}
 pub use Rattle.control.specs.declared.state.Control.{Control}
 pub use Rattle.control.specs.declared.commands.Command.{Command}
 pub use Rattle.control.specs.declared.commands.Command.the-variants.{Nothing, ReadByte, ReadAndBranch, LoadAddress, Speak, SpeakExternal, Reset}
+pub use Rattle.bus.specs.declared.commands.Accepted.{Accepted}
 pub use Rattle.speech.specs.declared.advance.Action.{Action}
 pub use Rattle.speech.specs.declared.advance.Action.the-variants.{Silent, Rest, RunOut, Begin, Continue}
 pub use Rattle.speech.specs.declared.advance.Moved.{Moved}

@@ -1,17 +1,14 @@
 -- A byte written (01, "Refusal numbers", "Commands, FIFO, status").
 use mathlib.Core.Bool.{not, cond}
 use mathlib.Core.List.{List, [], _∷_}
-use Prim.Native.Nat.{ℕ, _+_}
-use lib.Dec.{eqb}
+use Prim.Native.Nat.{ℕ}
 use Rattle.base.specs.Refusals.{TAKEN, WAIT, BEYOND, IMAGE, STATE, firstFault, unlessFault}
 use Rattle.rom.specs.Bits.{imageValid}
-use Rattle.chip.specs.Types.{Mode, Idle, Rom, Waiting, External, Chip, Written}
-use Rattle.control.specs.State.{startLevel}
-use Rattle.control.specs.Buffer.{appended}
-use Rattle.control.specs.Commands.{commandOf, isReset, waits, beyond}
-use Rattle.chip.specs.State.{withFifo, talking}
+use Rattle.sound.specs.State.{restSound}
+use Rattle.chip.specs.Types.{Accepted, Chip, Written}
+use Rattle.control.specs.Commands.{commandOf, waits, beyond}
+use Rattle.bus.specs.Accept.{accepted}
 use Rattle.chip.specs.Validity.{valid}
-use Rattle.chip.specs.Commands.{reset, obeyed}
 
 -- the fault of a written byte, in 01's order of checks
 unfoldable pub writeFault : List ℕ → Chip → ℕ → ℕ
@@ -21,16 +18,9 @@ writeFault image c b =
     ((not (imageValid image), IMAGE) ∷ (not (valid c), STATE) ∷ (waits m (c .control .fifo .level) (commandOf b), WAIT) ∷
     (beyond m image (c .control .place .position) (commandOf b), BEYOND) ∷ [])
 
--- in both external modes each byte goes to the FIFO
-abbrev pub buffered : Chip → ℕ → Chip
-buffered c b = withFifo (appended (c .control .fifo) b) c
-
--- what a taken byte does. The ninth byte in waiting starts external speaking
-abbrev pub writtenIn : Mode → List ℕ → Chip → ℕ → Chip
-writtenIn Idle image c b = obeyed image c b (commandOf b)
-writtenIn Rom image c b = cond (isReset (commandOf b)) (reset c) c
-writtenIn Waiting image c b = cond (eqb (c .control .fifo .level + 1) startLevel) (talking External (buffered c b)) (buffered c b)
-writtenIn External image c b = buffered c b
+-- what a taken byte does: the control has accepted it, and the sound is at rest where the byte puts it there
+abbrev pub afterByte : Chip → Accepted → Chip
+afterByte c a = record { control = a .control; sound = cond (a .rests) restSound (c .sound) }
 
 -- refused, the state is the given one
 abbrev pub notWritten : Chip → ℕ → Written
@@ -40,4 +30,4 @@ notWritten c n = record { chip = c; refusal = n }
 unfoldable pub writeOf : List ℕ → Chip → ℕ → Written
 writeOf image c b =
     unlessFault (writeFault image c b) (notWritten c)
-    (record { chip = writtenIn (c .control .mode) image c b; refusal = TAKEN })
+    (record { chip = afterByte c (accepted image (c .control) b); refusal = TAKEN })

@@ -1,5 +1,4 @@
 // The chip of document 01: one value, which each operation takes and hands back.
-pub mod commands;
 pub mod read;
 pub mod run;
 pub mod state;

@@ -37,10 +37,12 @@ impl Chip {
                 refusal: fault,
             };
         }
-        let port = self.control.port;
-        let chip = self.with_port(port.acknowledged());
+        let old = self.control;
+        let port = old.port;
+        let control = old.with_port(port.acknowledged());
+        let sound = self.sound;
         Acknowledged {
-            chip,
+            chip: Chip { control, sound },
             refusal: TAKEN,
         }
     }

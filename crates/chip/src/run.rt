@@ -43,9 +43,9 @@ impl Chip {
         ensures { λ r. ⌜ r ≡ playedOn (now (voice .entry)) (length (now (out .entry))) self ⌝ }
         ensures { λ r. ⌜ now (out .exit) ≡ valuesOf pitches (now (voice .entry)) (length (now (out .entry))) (self .sound) ⌝ }
     {
-        let mut control = self.control;
-        let clock = control.clock;
-        control.clock = clock.count_by(out.len() as u64);
+        let old = self.control;
+        let clock = old.clock;
+        let control = old.with_clock(clock.count_by(out.len() as u64));
         let before = self.sound;
         let sound = before.play(voice, out);
         Chip { control, sound }

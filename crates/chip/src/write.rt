@@ -1,18 +1,17 @@
 // A byte written.
 ghost use mathlib.Core.Path.{_≡_};
-ghost use Prim.Native.Nat.{_≤_, _<_};
-ghost use Rattle.control.specs.State.{positionLimit, fifoSize};
-ghost use Rattle.chip.specs.Write.{writeFault, buffered, writtenIn, writeOf};
+ghost use Rattle.chip.specs.Write.{writeFault, afterByte, writeOf};
 use crate::state::Chip;
 use base::refusal::BEYOND;
 use base::refusal::IMAGE;
 use base::refusal::STATE;
 use base::refusal::TAKEN;
 use base::refusal::WAIT;
+use bus::accept::accept;
+use bus::commands::Accepted;
 use control::commands::command_of;
-use control::state::Control;
-use control::state::Mode;
 use rom::bits::image_valid;
+use sound::state::Sound;
 
 pub struct Written {
     pub chip: Chip,
@@ -41,41 +40,17 @@ impl Chip {
         TAKEN
     }
 
-    fn buffer(self, byte: u8) -> Chip
-        requires { ⌜ self .control .fifo .level < fifoSize ⌝ }
-        ensures { λ r. ⌜ r ≡ buffered self byte ⌝ }
+    // The chip whose control has accepted a byte.
+    fn after_byte(self, accepted: Accepted) -> Chip
+        ensures { λ r. ⌜ r ≡ afterByte self accepted ⌝ }
     {
-        let fifo = self.control.fifo;
-        self.with_fifo(fifo.append(byte))
-    }
-
-    // What a taken byte does.
-    fn take(self, image: &[u8], byte: u8) -> Chip
-        requires { ⌜ (self .control .place .position ≤ positionLimit) × (self .control .place .nibble ≤ 4) × (self .control .fifo .level < fifoSize) ⌝ }
-        ensures { λ r. ⌜ r ≡ writtenIn (self .control .mode) (now (image .entry)) self byte ⌝ }
-    {
-        let command = command_of(byte);
-        let control = self.control;
-        let mode = control.mode;
-        match mode {
-            Mode::Idle => self.obey(image, byte, command),
-            Mode::Rom => {
-                if command.is_reset() {
-                    self.reset()
-                } else {
-                    self
-                }
-            }
-            Mode::Waiting => {
-                let level = control.fifo.level;
-                let buffered = self.buffer(byte);
-                if level + 1 == Control::START_LEVEL {
-                    buffered.talk(Mode::External)
-                } else {
-                    buffered
-                }
-            }
-            Mode::External => self.buffer(byte),
+        let control = accepted.control;
+        if accepted.rests {
+            let sound = Sound::at_rest();
+            Chip { control, sound }
+        } else {
+            let sound = self.sound;
+            Chip { control, sound }
         }
     }
 
@@ -90,7 +65,8 @@ impl Chip {
                 refusal: fault,
             };
         }
-        let chip = self.take(image, byte);
+        let control = self.control;
+        let chip = self.after_byte(accept(control, image, byte));
         Written {
             chip,
             refusal: TAKEN,

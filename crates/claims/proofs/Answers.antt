@@ -15,10 +15,9 @@ use Rattle.control.specs.Status.{statusOf, acknowledgedPort}
 use Rattle.control.specs.declared.state.Mode.the-variants.{Idle, Rom}
 use Rattle.control.specs.declared.state.Port.{Port}
 use Rattle.control.specs.declared.state.Control.{Control}
-use Rattle.chip.specs.State.{withPort}
 use Rattle.chip.specs.Validity.{valid}
 use Rattle.chip.specs.Write.{writeFault}
-use Rattle.chip.specs.Read.{acknowledgeOf, readOf}
+use Rattle.chip.specs.Read.{acknowledged, acknowledgeOf, readOf}
 use Rattle.chip.specs.Step.{steps, stepFault, notStepped, stepOf}
 use Rattle.chip.specs.Run.{sampleStep, notRun, runOf}
 use Rattle.chip.specs.declared.state.Chip.{Chip}
@@ -59,7 +58,7 @@ module _ (c : Chip) (v : valid c ≡ true) where
   unfolding readOf acknowledgeOf
   read-status p = rw (v, p)
 
-  pub read-chip : readOf c .chip ≡ withPort (acknowledgedPort (c .control .port)) c
+  pub read-chip : readOf c .chip ≡ record { control = acknowledged (c .control); sound = c .sound }
   unfolding readOf acknowledgeOf
   read-chip = rw v
 

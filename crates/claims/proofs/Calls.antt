@@ -17,8 +17,8 @@ use Rattle.control.specs.State.{started}
 use Rattle.control.specs.declared.commands.Command.the-variants.{Speak}
 use Rattle.speech.specs.Advance.{advanced}
 use Rattle.chip.specs.Validity.{valid}
-use Rattle.chip.specs.Commands.{obeyed}
-use Rattle.chip.specs.Write.{writeFault, writeOf}
+use Rattle.bus.specs.Commands.{obeyed}
+use Rattle.chip.specs.Write.{writeFault, afterByte, writeOf}
 use Rattle.chip.specs.Step.{steps, notStepped, stepOf}
 use Rattle.chip.specs.Run.{sampleStep, runOf}
 use Rattle.chip.specs.declared.state.Chip.{Chip}
@@ -187,7 +187,7 @@ core image a i inside c r s = (
   λ fs there xs. let frames = chain-there image a fs inside there in on-calls image i a fs frames xs (begins fs frames),
 )
   where
-    taken : writeOf image c (s .byte) ≡ record { chip = obeyed image c (s .byte) Speak; refusal = 0 }
+    taken : writeOf image c (s .byte) ≡ record { chip = afterByte c (obeyed image (c .control) (s .byte) Speak); refusal = 0 }
     taken =
         obeys image c (s .byte) Speak i (r .is-valid) (r .is-idle) (s .speak)
         (rw (le-leb (c .control .place .position + 1) (8 * length image) (omega (arith, r .at-byte))))

@@ -8,10 +8,11 @@ use Rattle.rom.specs.Phrases.{walkOf}
 use Rattle.sound.specs.State.{soundValid, atRest}
 use Rattle.sound.specs.Noise.{noiseBit, nextNoise}
 use Rattle.control.specs.Validity.{controlValid}
+use Rattle.bus.specs.Accept.{accepted}
 use Rattle.chip.specs.Validity.{valid}
 use Rattle.chip.specs.Write.{writeFault, writeOf}
 use Rattle.claims.specs.Cases.{cases, CasesHold}
 
 pub cases-hold : CasesHold
-unfolding cases walkOf itemsFrom frameAt decoded field bit digits writeOf writeFault valid controlValid soundValid atRest nextNoise noiseBit
+unfolding cases walkOf itemsFrom frameAt decoded field bit digits writeOf writeFault accepted valid controlValid soundValid atRest nextNoise noiseBit
 cases-hold = refl

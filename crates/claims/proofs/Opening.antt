@@ -10,13 +10,13 @@ use borrow.Author.Tests.{le-leb}
 use lib.Arith.{mod-mul}
 use Rattle.rom.specs.Bits.{imageValid}
 use Rattle.rom.proofs.Checks.{valid-length}
-use Rattle.sound.specs.State.{soundValid, atRest}
-use Rattle.control.specs.State.{positionLimit, addressLimit}
+use Rattle.sound.specs.State.{soundValid, restSound, atRest}
+use Rattle.control.specs.State.{positionLimit, addressLimit, powerUpControl, withPlace}
 use Rattle.control.specs.Validity.{controlValid}
 use Rattle.control.specs.Addresses.{withNibble}
 use Rattle.control.specs.Commands.{commandOf}
 use Rattle.control.specs.declared.commands.Command.the-variants.{LoadAddress}
-use Rattle.chip.specs.State.{powerUp, withPlace}
+use Rattle.chip.specs.State.{powerUp}
 use Rattle.chip.specs.Validity.{valid}
 use Rattle.chip.specs.Write.{writeOf}
 use Rattle.chip.specs.declared.state.Chip.{Chip}
@@ -27,7 +27,7 @@ use Rattle.claims.proofs.Commanded.{obeys}
 
 -- power-up, at another place
 abbrev placed : ℕ → ℕ → Chip
-placed p i = withPlace (record { position = p; nibble = i }) powerUp
+placed p i = record { control = withPlace (record { position = p; nibble = i }) powerUpControl; sound = restSound }
 
 placed-valid : (p i : ℕ) → p ≤ positionLimit → i ≤ 4 → valid (placed p i) ≡ true
 unfolding valid controlValid soundValid atRest

@@ -13,5 +13,6 @@ acknowledge-spec =
     (λ c κs. search needs)
     (λ c κs. search needs)
     (λ c.
-    acknowledge-taken _ (c .before .before .before .before .read-fault .ensures) (c .before .before .before .if1 .left)
-    (rw (c .with-port .ensures, c .before .acknowledged .ensures))))
+    let b = c .before .before in
+    acknowledge-taken _ (b .before .before .before .before .read-fault .ensures) (b .before .before .before .if1 .left)
+    (rw (c .before .with-port .ensures, b .acknowledged .ensures))))

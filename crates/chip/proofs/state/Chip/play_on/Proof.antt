@@ -1,6 +1,5 @@
 -- `chip::state::Chip::play_on` meets its contract. Assumes nothing.
 use borrow.Author.Needs.{needs}
-use denote.Ref.{now}
 use Rattle.chip.proofs.Ranges.{chip-ranges, valid-clock}
 use Rattle.chip.proofs.state.Chip.play_on.Statement.{statement}
 use Rattle.chip.proofs.state.Chip.play_on.Tie as tie
@@ -10,6 +9,10 @@ play-on-spec =
     tie.close
     (tie.spec
     (λ c κs. let s = c .before .before .before in let r = valid-clock (s .args .self) (s .pre .0) in (r .0, r .1, s .pre .1))
-    (λ c κs. let s = c .before .before .before .before .before .before in chip-ranges (s .args .self) (s .pre .0) .sound)
+    (λ c κs. search needs)
+    (λ c κs. let s = c .before .before .before .before .before .before .before in chip-ranges (s .args .self) (s .pre .0) .sound)
     (λ c. search needs)
-    (λ c. (rw (c .before .before .before .before .count-by .ensures, c .before .play .ensures .0), c .before .play .ensures .1)))
+    (λ c.
+    let p = c .before .play .ensures in
+    let b = c .before .before .before .before in
+    (rw (b .with-clock .ensures, b .before .count-by .ensures, p .0), p .1)))

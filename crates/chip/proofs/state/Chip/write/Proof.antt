@@ -2,14 +2,17 @@
 use borrow.Author.Needs.{needs}
 use denote.Ref.{now}
 use mathlib.Core.Path.{sym, _∙_}
-use Rattle.chip.proofs.Writing.{found, found-ranges, write-refused, write-taken}
+use Rattle.control.proofs.Ranges.{control-in-ranges}
+use Rattle.chip.proofs.Ranges.{chip-ranges}
+use Rattle.chip.proofs.Writing.{found, write-refused, write-taken}
 use Rattle.chip.proofs.state.Chip.write.Statement.{statement}
 use Rattle.chip.proofs.state.Chip.write.Tie as tie
 
-take-requires : tie.Need-take-requires
-take-requires c κs =
-    let a = c .before .before .before .args in
-    found-ranges (now (a .image)) (a .self) (a .byte) (found _ _ _ (sym (c .before .write-fault .ensures) ∙ c .if1 .left))
+accept-requires : tie.Need-accept-requires
+accept-requires c κs =
+    let a = c .before .before .before .before .args in
+    let f = found (now (a .image)) (a .self) (a .byte) (sym (c .before .before .write-fault .ensures) ∙ c .before .if1 .left) in
+    (control-in-ranges _ (chip-ranges _ (f .chip-valid) .control), f .no-wait)
 
 pub write-spec : {M : Type 1} → statement M
 write-spec =
@@ -17,5 +20,8 @@ write-spec =
     (tie.spec
     (λ c κs. search needs)
     (λ c. write-refused _ _ _ (c .before .write-fault .ensures) (c .if1 .taken))
-    take-requires
-    (λ c. write-taken _ _ _ (c .before .before .write-fault .ensures) (c .before .if1 .left) (c .take .ensures)))
+    accept-requires
+    (λ c κs. search needs)
+    (λ c.
+    let b = c .before .before .before in
+    write-taken _ _ _ (b .before .write-fault .ensures) (b .if1 .left) (c .before .accept .ensures) (c .after-byte .ensures)))
