@@ -12,6 +12,7 @@ ghost use Rattle.chip.specs.Step.{stepFault};
 ghost use Rattle.chip.specs.Run.{sampleStep, playedOn, runOf, bufferOf};
 use crate::state::Chip;
 use base::refusal::TAKEN;
+use base::units::Samples;
 
 pub struct Ran {
     pub chip: Chip,
@@ -45,7 +46,7 @@ impl Chip {
     {
         let old = self.control;
         let clock = old.clock;
-        let control = old.with_clock(clock.count_by(out.len() as u64));
+        let control = old.with_clock(clock.count_by(Samples(out.len() as u64)));
         let before = self.sound;
         let sound = before.play(voice, out);
         Chip { control, sound }
@@ -61,7 +62,7 @@ impl Chip {
         let mut i = 0;
         while i < out.len() {
             let clock = chip.control.clock;
-            let left = clock.left_of_interval() as usize;
+            let left = clock.left_of_interval().0 as usize;
             if left == 0 {
                 let stepped = chip.take_step(image, voice);
                 let next = stepped.chip;

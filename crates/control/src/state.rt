@@ -182,11 +182,11 @@ impl Clock {
 
     // `count_by`, `count` and `left_of_interval` take counters in their ranges, so that no sum is out of range: a valid chip has
     // such.
-    pub fn count_by(self, samples: u64) -> Clock
-        requires { ⌜ (self .sample .0 ≤ 24) × (self .interval .0 ≤ 7) × (samples ≤ 25) ⌝ }
-        ensures { λ r. ⌜ r ≡ countedBy samples self ⌝ }
+    pub fn count_by(self, samples: Samples) -> Clock
+        requires { ⌜ (self .sample .0 ≤ 24) × (self .interval .0 ≤ 7) × (samples .0 ≤ 25) ⌝ }
+        ensures { λ r. ⌜ r ≡ countedBy (samples .0) self ⌝ }
     {
-        let next = self.sample.0 + samples;
+        let next = self.sample.0 + samples.0;
         let interval = self.interval.0 + next / Control::SAMPLES_PER_INTERVAL;
         Clock {
             sounding: self.sounding,
@@ -199,7 +199,7 @@ impl Clock {
         requires { ⌜ (self .sample .0 ≤ 24) × (self .interval .0 ≤ 7) ⌝ }
         ensures { λ r. ⌜ r ≡ counted self ⌝ }
     {
-        self.count_by(1)
+        self.count_by(Samples(1))
     }
 
     pub fn interval_begins(self) -> bool
@@ -215,14 +215,14 @@ impl Clock {
     }
 
     // The samples left of an interval in which one has been made.
-    pub fn left_of_interval(self) -> u64
+    pub fn left_of_interval(self) -> Samples
         requires { ⌜ self .sample .0 ≤ 24 ⌝ }
-        ensures { λ r. ⌜ r ≡ leftOfInterval self ⌝ }
+        ensures { λ r. ⌜ r .0 ≡ leftOfInterval self ⌝ }
     {
         if self.sample.0 == 0 {
-            0
+            Samples(0)
         } else {
-            Control::SAMPLES_PER_INTERVAL - self.sample.0
+            Samples(Control::SAMPLES_PER_INTERVAL - self.sample.0)
         }
     }
 }
