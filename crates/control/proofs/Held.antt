@@ -8,15 +8,18 @@ use native.Mathlib.Omega.{arith}
 use lib.ListN.{length, take, drop, replicate, length-append, length-take, length-drop}
 use lib.Seq.{take-suc-set, take-add, take-append-le, drop-append-le, drop-append-add, drop-drop, length-take-le}
 use Rattle.rom.specs.Bits.{digits}
-use Rattle.rom.proofs.Encoding.{length-digits}
 use Rattle.control.specs.Types.{Mode, Idle, Rom, Waiting, External, Fifo}
-use Rattle.control.specs.Buffer.{bitsOfBytes}
+use Rattle.control.specs.Buffer.{bitsOfByte, bitsOfBytes}
 use Rattle.control.specs.Laws.{HeldLength, HeldAppended, HeldUsed}
 use Rattle.control.proofs.Ranges.{FifoRanges, fifo-ranges}
 
+length-byte : (b : ℕ) → length (bitsOfByte b) ≡ 8
+unfolding digits
+length-byte b = refl
+
 length-bits : (bs : List ℕ) → length (bitsOfBytes bs) ≡ 8 * length bs
 length-bits [] = refl
-length-bits (b ∷ bs) = omega (arith, length-append (digits 8 b) (bitsOfBytes bs), length-digits 8 b, length-bits bs)
+length-bits (b ∷ bs) = omega (arith, length-append (bitsOfByte b) (bitsOfBytes bs), length-byte b, length-bits bs)
 
 bits-append : (xs ys : List ℕ) → bitsOfBytes (xs ++ ys) ≡ bitsOfBytes xs ++ bitsOfBytes ys
 bits-append [] ys = refl

@@ -14,10 +14,14 @@ abbrev pub usedUp : Fifo → ℕ → Fifo
 usedUp f u =
     record { bytes = drop (u / 8) (f .bytes) ++ replicate (u / 8) 0; level = f .level - u / 8; used = u % 8 }
 
--- the bits of bytes, most significant first
+-- the bits of a byte in the order in which they leave the FIFO: most significant first
+abbrev pub bitsOfByte : ℕ → List ℕ
+bitsOfByte b = digits 8 b
+
+-- and those of bytes, one after another
 abbrev pub bitsOfBytes : List ℕ → List ℕ
 bitsOfBytes [] = []
-bitsOfBytes (b ∷ bs) = digits 8 b ++ bitsOfBytes bs
+bitsOfBytes (b ∷ bs) = bitsOfByte b ++ bitsOfBytes bs
 
 -- the bits that the FIFO holds, in the order in which they leave it
 abbrev pub heldBits : Fifo → List ℕ
