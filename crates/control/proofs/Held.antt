@@ -13,11 +13,11 @@ use Rattle.control.specs.Buffer.{bitsOfByte, bitsOfBytes}
 use Rattle.control.specs.Laws.{HeldLength, HeldAppended, HeldUsed}
 use Rattle.control.proofs.Ranges.{FifoRanges, fifo-ranges}
 
-length-byte : (b : ℕ) → length (bitsOfByte b) ≡ 8
+pub length-byte : (b : ℕ) → length (bitsOfByte b) ≡ 8
 unfolding digits
 length-byte b = refl
 
-length-bits : (bs : List ℕ) → length (bitsOfBytes bs) ≡ 8 * length bs
+pub length-bits : (bs : List ℕ) → length (bitsOfBytes bs) ≡ 8 * length bs
 length-bits [] = refl
 length-bits (b ∷ bs) = omega (arith, length-append (bitsOfByte b) (bitsOfBytes bs), length-byte b, length-bits bs)
 
@@ -26,7 +26,7 @@ bits-append [] ys = refl
 bits-append (x ∷ xs) ys = rw (bits-append xs ys) (rw append-assoc)
 
 -- the level and the used bits of a valid FIFO fit its bytes
-fits : (m : Mode) (f : Fifo) → FifoRanges m f → (f .level ≤ length (f .bytes)) × (f .used ≤ 8 * f .level)
+pub fits : (m : Mode) (f : Fifo) → FifoRanges m f → (f .level ≤ length (f .bytes)) × (f .used ≤ 8 * f .level)
 fits Idle f r = omega (arith, r .most, r .used, r .size)
 fits Rom f r = omega (arith, r .most, r .used, r .size)
 fits Waiting f r = omega (arith, r .most, r .used, r .size)

@@ -1,4 +1,5 @@
 pub mod Ranges
 pub mod Nibbles
 pub mod Held
+pub mod HeldFrames
 pub mod Shifting
