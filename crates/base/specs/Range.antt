@@ -1,16 +1,17 @@
--- Ranges of integers, as bounds on natural numbers, for which there is linear arithmetic.
+-- Ranges of integers (01, "State ranges"; "Sound", held to): as tests, and as facts on natural numbers, for which there is
+-- linear arithmetic.
 use mathlib.Core.Bool.{Bool, true, not, cond, _&&_}
 use mathlib.Core.List.{List, [], _∷_}
 use Prim.Native.Nat.{ℕ, suc, _≤_}
 use lib.IntN.{ℤ, pos, negsuc}
 use lib.Signed.{ltZ}
 
--- z is its positive part less its negative part; one of the two is 0
+-- the positive part of z: z, or 0 where z is below 0
 abbrev pub posPart : ℤ → ℕ
 posPart (pos n) = n
 posPart (negsuc n) = 0
 
--- and the other part
+-- the negative part of z: -z, or 0 where z is not below 0; z is its positive part less its negative part
 abbrev pub negPart : ℤ → ℕ
 negPart (pos n) = 0
 negPart (negsuc n) = suc n

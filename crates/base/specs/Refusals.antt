@@ -8,11 +8,11 @@ use lib.Dec.{eqb}
 abbrev pub TAKEN : ℕ
 TAKEN = 0
 
--- the byte has to wait
+-- a byte is written in Speak External with 16 bytes held, or a byte other than Reset in the mode speaking from ROM
 abbrev pub WAIT : ℕ
 WAIT = 1
 
--- bits or bytes beyond the image
+-- bits, bytes or an address at or past the end of the image
 abbrev pub BEYOND : ℕ
 BEYOND = 2
 
@@ -20,31 +20,31 @@ BEYOND = 2
 abbrev pub IMAGE : ℕ
 IMAGE = 3
 
--- a field of the chip breaks its range
+-- a field of the chip breaks the state ranges
 abbrev pub STATE : ℕ
 STATE = 4
 
--- size of a voice file
+-- voice file under 499 or over 562 bytes
 abbrev pub VOICE-SIZE : ℕ
 VOICE-SIZE = 5
 
--- its length field
+-- its length field is not its size minus 2
 abbrev pub VOICE-LENGTH : ℕ
 VOICE-LENGTH = 6
 
--- its version byte
+-- its version byte is not 1
 abbrev pub VOICE-VERSION : ℕ
 VOICE-VERSION = 7
 
--- a table value of it
+-- a value in its tables is out of range
 abbrev pub VOICE-VALUE : ℕ
 VOICE-VALUE = 8
 
--- its pulse count
+-- its pulse count is 0, over 64, or its length field is not 496 + count
 abbrev pub VOICE-PULSE : ℕ
 VOICE-PULSE = 9
 
--- the bits end before a stop, or inside a frame
+-- walk: the bits end before a stop; frame taken: the bits end inside it
 abbrev pub NO-PHRASE : ℕ
 NO-PHRASE = 10
 
@@ -53,6 +53,6 @@ abbrev pub firstFault : List (Bool × ℕ) → ℕ
 firstFault [] = TAKEN
 firstFault (f ∷ fs) = cond (f .0) (f .1) (firstFault fs)
 
--- the answer of a call whose fault is n: the answer without one, or the refused answer with its number
+-- the answer of a call whose fault is n: `answer` where n is TAKEN, else the refused answer with the number n
 abbrev pub unlessFault : {A : Type 0} → ℕ → (ℕ → A) → A → A
 unlessFault n refused answer = cond (eqb n TAKEN) answer (refused n)

@@ -5,9 +5,17 @@ use Rattle.base.specs.declared.units.Intervals.{Intervals}
 use Rattle.base.specs.declared.units.Samples.{Samples}
 
 -- 8 intervals make a frame
-abbrev pub intervalsOf : Frames → Intervals
-intervalsOf f = record { 0 = 8 * f .0 }
+abbrev pub intervalsPerFrame : ℕ
+intervalsPerFrame = 8
 
 -- 25 samples make an interval
+abbrev pub samplesPerInterval : ℕ
+samplesPerInterval = 25
+
+-- the intervals of frames
+abbrev pub intervalsOf : Frames → Intervals
+intervalsOf f = record { 0 = intervalsPerFrame * f .0 }
+
+-- the samples of intervals
 abbrev pub samplesOf : Intervals → Samples
-samplesOf i = record { 0 = 25 * i .0 }
+samplesOf i = record { 0 = samplesPerInterval * i .0 }
