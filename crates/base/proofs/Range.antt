@@ -3,12 +3,12 @@
 -- Assumes nothing.
 use mathlib.Core.Path.{_≡_, refl, sym, _∙_, subst}
 use mathlib.Core.Logic.{_⊎_, inl, inr}
-use mathlib.Core.Bool.{Bool, true, false, not, cond, _&&_}
+use mathlib.Core.Bool.{true, false, not, _&&_}
 use mathlib.Core.List.{List, [], _∷_}
-use Prim.Native.Nat.{ℕ, zero, suc, _+_, _-_, _*_, _^_, _≤_, _<_, max}
+use Prim.Native.Nat.{ℕ, zero, suc, _+_, _*_, _^_, _≤_, _<_, max}
 use native.Mathlib.Nat.{mul-le-mul, div-le-self, le-max-left, le-max-right}
 use native.Mathlib.Omega.{arith}
-use lib.Dec.{T, eqb, leb, ltb, ltb→lt, leb→le, nltb→le}
+use lib.Dec.{T, eqb, leb, ltb, ltb→lt, leb→le}
 use lib.Ieee.Fits.{and-l, and-r}
 use lib.IntN.{ℤ, pos, negsuc, negℤ, natAbs, subℕ, _+ℤ_, _-ℤ_, _*ℤ_}
 use lib.ListN.{getD}
@@ -16,8 +16,8 @@ use lib.Signed.{mag, shrZ, ltZ}
 use mir.Syntax.{Width, w32}
 use mir.Val.{hbits, SFits, toZ, ofZ}
 use mir.ValLaws.{toZ-ofZ}
-use borrow.Author.Tests.{ltb-false, le-ltb, ne-eqb, not-true}
-use Rattle.base.proofs.Booleans.{both-true}
+use borrow.Author.Tests.{ltb-true, ltb-false, le-ltb, ne-eqb, not-true}
+use Rattle.base.proofs.Booleans.{both-true, by-test}
 use Rattle.base.specs.Range.{posPart, negPart, Between, inside, allInside, clamped}
 
 -- ---- the parts of a result
@@ -29,11 +29,7 @@ pub record Parts (s : ℤ) (a b : ℕ) : Type 0 where
   pub down : negPart s ≤ b
 
 parts-sub : (a b : ℕ) → Parts (subℕ a b) a b
-parts-sub a b = by-test (ltb a b) refl
-  where
-    by-test : (t : Bool) → ltb a b ≡ t → Parts (cond t (negsuc (b - suc a)) (pos (a - b))) a b
-    by-test true e = let h : a < b = ltb→lt a b (rw e tt) in omega arith
-    by-test false e = let h : b ≤ a = nltb→le a b (rw e tt) in omega arith
+parts-sub a b = by-test (λ z. Parts z a b) (ltb a b) (λ e. omega (arith, ltb-true a b e)) (λ e. omega (arith, ltb-false a b e))
 
 pub parts-add : (a b : ℤ) → Parts (a +ℤ b) (posPart a + posPart b) (negPart a + negPart b)
 parts-add (pos a) (pos b) = omega arith
@@ -165,15 +161,12 @@ module _ (n p : ℕ) where
   -- a clamped number is in its range
   pub clamped-between : (z : ℤ) → Between n p (clamped low (pos p) z)
   unfolding clamped
-  clamped-between z = below (ltZ z low) refl
-    where
-      above : ltZ z low ≡ false → (t : Bool) → ltZ (pos p) z ≡ t → Between n p (cond t (pos p) z)
-      above e true f = omega arith
-      above e false f = ordered z (omega (arith, not-less (pos p) z f)) (omega (arith, parts-neg (pos n), not-less z low e))
-
-      below : (t : Bool) → ltZ z low ≡ t → Between n p (cond t low (cond (ltZ (pos p) z) (pos p) z))
-      below true e = omega (arith, parts-neg (pos n))
-      below false e = above e (ltZ (pos p) z) refl
+  clamped-between z =
+      by-test (Between n p) (ltZ z low)
+      (λ e. omega (arith, parts-neg (pos n)))
+      (λ e. by-test (Between n p) (ltZ (pos p) z)
+      (λ f. omega arith)
+      (λ f. ordered z (omega (arith, not-less (pos p) z f)) (omega (arith, parts-neg (pos n), not-less z low e))))
 
   -- a range and its test
   pub tested : (z : ℤ) → inside low (pos p) z ≡ true → Between n p z

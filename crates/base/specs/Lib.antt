@@ -1,3 +1,4 @@
+pub mod Bytes
 pub mod Range
 pub mod Refusals
 pub mod Steps
