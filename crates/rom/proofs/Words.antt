@@ -1,21 +1,18 @@
 -- Bytes and words of an image, and the fields inside a word.
 -- Assumes nothing.
-use mathlib.Core.Path.{_≡_, sym}
+use mathlib.Core.Path.{_≡_}
 use mathlib.Core.List.{List}
 use Prim.Native.Nat.{ℕ, zero, suc, _+_, _*_, _-_, _/_, _%_, _^_, _≤_, _<_}
 use native.Mathlib.Nat.{one-mul}
 use native.Mathlib.Numerals.{add-one}
 use native.Mathlib.Omega.{arith}
 use lib.Dec.{lit<}
-use lib.ListN.{length, getD, List·getD-eq-default}
+use lib.ListN.{getD}
 use lib.Pow.{shr-shr, mod-pow-add, shl-exact}
 use mir.Syntax.{w8}
 use mir.Val.{Fits}
 use Rattle.rom.specs.Bits.{bit, field}
 use Rattle.rom.proofs.Fields.{field-split, field-inside}
-
-pub byte-past : (s : List ℕ) (n : ℕ) → length s ≤ n → 0 ≡ getD s n 0
-byte-past s n h = sym (List·getD-eq-default s 0 h)
 
 -- bit k of byte n
 bit-byte : (s : List ℕ) (n k : ℕ) → k < 8 → bit s (8 * n + k) ≡ getD s n 0 / 2 ^ (7 - k) % 2

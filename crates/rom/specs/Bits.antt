@@ -4,7 +4,8 @@ use mathlib.Core.Bool.{Bool, _&&_, not}
 use mathlib.Core.List.{List, [], _∷_, _++_}
 use Prim.Native.Nat.{ℕ, zero, suc, _+_, _*_, _-_, _/_, _%_, _^_, _≤_}
 use lib.Dec.{leb, ltb}
-use lib.ListN.{length, getD}
+use lib.ListN.{length}
+use Rattle.base.specs.Bytes.{byteAt}
 use Rattle.base.specs.Refusals.{IMAGE, BEYOND, firstFault}
 
 -- the most bytes of an image
@@ -15,13 +16,13 @@ imageLimit = 262144
 abbrev pub imageValid : List ℕ → Bool
 imageValid s = ltb 0 (length s) && leb (length s) imageLimit
 
--- the fault of a call at a place of an image, which may lie beyond its end: 3, then 2
+-- the fault of a call on an image: 3, then 2 where what is asked for lies beyond the end, which the caller tests
 abbrev pub imageFault : List ℕ → Bool → ℕ
 imageFault s beyond = firstFault ((not (imageValid s), IMAGE) ∷ (beyond, BEYOND) ∷ [])
 
 -- bit i of the image s, the most significant of a byte first; 0 past the end
 unfoldable pub bit : List ℕ → ℕ → ℕ
-bit s i = getD s (i / 8) 0 / 2 ^ (7 - i % 8) % 2
+bit s i = byteAt s (i / 8) / 2 ^ (7 - i % 8) % 2
 
 -- the field of w bits from bit `at` on, for every width: its first bit is its most significant
 unfoldable pub field : List ℕ → ℕ → ℕ → ℕ

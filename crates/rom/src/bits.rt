@@ -1,8 +1,8 @@
 // The bits of a lent image.
 ghost use mathlib.Core.Path.{_≡_};
 ghost use Prim.Native.Nat.{_+_, _*_, _≤_, _^_};
-ghost use lib.ListN.{getD};
 ghost use Rattle.rom.specs.Bits.{field, imageValid, imageFault};
+use base::bytes::byte_at;
 use base::refusal::BEYOND;
 use base::refusal::IMAGE;
 use base::refusal::TAKEN;
@@ -18,7 +18,7 @@ pub fn image_valid(image: &[u8]) -> bool
     (0 < n) & (n <= IMAGE_LIMIT)
 }
 
-// The fault of a call at a place of the image, which may lie beyond its end.
+// The fault of a call on an image: 3, then 2 where the caller has found that what is asked for lies beyond the end.
 pub fn image_fault(image: &[u8], beyond: bool) -> u8
     ensures { λ r. ⌜ r ≡ imageFault (now (image .entry)) beyond ⌝ }
 {
@@ -26,13 +26,6 @@ pub fn image_fault(image: &[u8], beyond: bool) -> u8
         return IMAGE;
     }
     if beyond { BEYOND } else { TAKEN }
-}
-
-// Byte n of s; 0 past the end.
-fn byte_at(s: &[u8], n: usize) -> u8
-    ensures { λ r. ⌜ r ≡ getD (now (s .entry)) n 0 ⌝ }
-{
-    if n < s.len() { s[n] } else { 0 }
 }
 
 // The number of four bytes, the first the most significant.

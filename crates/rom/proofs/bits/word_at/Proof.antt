@@ -1,7 +1,6 @@
 -- `rom::bits::word_at` meets its contract. Assumes nothing.
 use borrow.Author.Needs.{needs}
 use mathlib.Core.Path.{refl, _∙_}
-use native.Mathlib.Omega.{arith}
 use Rattle.rom.proofs.Words.{word-is}
 use Rattle.rom.proofs.bits.word_at.Statement.{statement}
 use Rattle.rom.proofs.bits.word_at.Tie as tie
