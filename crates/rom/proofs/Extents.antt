@@ -9,7 +9,7 @@ use lib.ListN.{length}
 use Rattle.rom.specs.Bits.{field}
 use Rattle.rom.specs.Frames.{bitCount, isStop}
 use Rattle.rom.specs.Reader.{silenceCode, stopCode, decoded, frameAt, skippedOf}
-use Rattle.rom.specs.declared.head.Skipped.the-variants.{Past, RanOut}
+use Rattle.rom.specs.declared.head.Skipped.the-variants.{Past, Cut as SkippedCut}
 use Rattle.rom.specs.declared.frames.Frame.{Frame}
 use Rattle.rom.specs.declared.reader.Taken.{Taken}
 use Rattle.rom.specs.declared.reader.Taken.the-variants.{Whole, Cut}
@@ -45,17 +45,17 @@ module _ (P : ℕ) (s : List ℕ) (at : ℕ) where
     pub skip-past : at + n ≤ 8 * length s → Past t (at + n) ≡ skippedOf (frameAt P s at)
     skip-past room = rw (h .1) (ap skippedOf (whole-is P s at refl (h .0) room))
 
-    pub skip-short : 8 * length s < at + n → RanOut ≡ skippedOf (frameAt P s at)
-    skip-short room = ap skippedOf (cut-is P s at refl (h .0) room)
+    pub skip-cut : 8 * length s < at + n → SkippedCut ≡ skippedOf (frameAt P s at)
+    skip-cut room = ap skippedOf (cut-is P s at refl (h .0) room)
 
 -- the reader's answer, from what the walk is told
 pub past-is : {a : Taken} {t : Bool} {n : ℕ} → Past t n ≡ skippedOf a → (f : Frame) × ((Whole f n ≡ a) × (isStop f ≡ t))
 past-is {a = Whole f m} e = (f, (cc, cc))
 past-is {a = Cut} e = let z : _≡_ {A = ℕ} 0 1 = cc in absurd (omega arith)
 
-pub ran-out-is : {a : Taken} → RanOut ≡ skippedOf a → Cut ≡ a
-ran-out-is {a = Whole f m} e = let z : _≡_ {A = ℕ} 0 1 = cc in absurd (omega arith)
-ran-out-is {a = Cut} e = refl
+pub skipped-cut : {a : Taken} → SkippedCut ≡ skippedOf a → Cut ≡ a
+skipped-cut {a = Whole f m} e = let z : _≡_ {A = ℕ} 0 1 = cc in absurd (omega arith)
+skipped-cut {a = Cut} e = refl
 
 -- the frame decoded where one is skipped is the one taken
 pub taken-is : (P : ℕ) (s : List ℕ) (at : ℕ) {t : Bool} {f : Frame} {n : ℕ} → Past t n ≡ skippedOf (frameAt P s at) → f ≡ decoded P s at

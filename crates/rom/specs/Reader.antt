@@ -12,7 +12,7 @@ use Rattle.rom.specs.declared.frames.Frame.{Frame}
 use Rattle.rom.specs.declared.frames.Frame.the-variants.{Silence, Stop, Repeat, Unvoiced, Voiced}
 use Rattle.rom.specs.declared.frames.Found.the-variants.{Some, None}
 use Rattle.rom.specs.declared.head.Skipped.{Skipped}
-use Rattle.rom.specs.declared.head.Skipped.the-variants.{Past, RanOut}
+use Rattle.rom.specs.declared.head.Skipped.the-variants.{Past, Cut as SkippedCut}
 use Rattle.rom.specs.declared.reader.Taken.{Taken}
 use Rattle.rom.specs.declared.reader.Taken.the-variants.{Whole, Cut}
 use Rattle.rom.specs.declared.reader.FrameTaken.{FrameTaken}
@@ -35,7 +35,7 @@ silenceCode = 0
 abbrev pub stopCode : ℕ
 stopCode = 15
 
--- the frame in the bits from bit `at` on, as if zeros followed the image's last
+-- the frame in the bits from bit `at` on, as if zeros followed the image's last bit
 unfoldable pub decoded : ℕ → List ℕ → ℕ → Frame
 decoded P s at =
     let e = field s at 4 in
@@ -54,13 +54,13 @@ frameAt P s at =
 -- what the walk asks of the reader's answer: whether the frame is a stop, and the bit after it
 abbrev pub skippedOf : Taken → Skipped
 skippedOf (Whole f next) = Past (isStop f) next
-skippedOf Cut = RanOut
+skippedOf Cut = SkippedCut
 
 -- a refused call: no frame, and zero for each number
 abbrev pub noFrame : ℕ → FrameTaken
 noFrame n = record { refusal = n; frame = None; bits = 0 }
 
--- the numbers of each answer of the reader
+-- what the operation answers for each answer of the reader: 0 with the frame and its bits, or 10
 abbrev pub takenOf : ℕ → Taken → FrameTaken
 takenOf P (Whole f next) = record { refusal = TAKEN; frame = Some f; bits = bitCount P f }
 takenOf P Cut = noFrame NO-PHRASE

@@ -12,7 +12,7 @@ pub(crate) const SILENCE_CODE: u8 = 0;
 
 pub(crate) const STOP_CODE: u8 = 15;
 
-// What the kind of a frame is told by.
+// The fields that tell the kind of a frame.
 pub struct Head {
     pub energy: u8,
     pub repeat: u8,
@@ -32,13 +32,14 @@ pub(crate) fn head_at(s: &[u8], at: usize, pitch_bits: usize) -> Head
     }
 }
 
-// A frame's bits, and whether it is a stop.
+// How many bits a frame has, and whether it is a stop.
 struct Extent {
     pub bits: usize,
     pub stop: bool,
 }
 
-// The extent of the frame in the bits from bit `at` on, as if zeros followed the last.
+// The extent of the frame in the bits from bit `at` on, as if zeros followed the last bit of s: 4 bits of energy; with repeat
+// and pitch 5 + `pitch_bits`; 18 more with K1 to K4; 39 more with K1 to K10.
 fn extent_at(s: &[u8], at: usize, pitch_bits: usize) -> Extent
     requires { ⌜ («pitch_bits» ≤ 8) × (at < 2 ^ 32 - 64) ⌝ }
     ensures { λ r. ⌜ (r .bits ≡ bitCount «pitch_bits» (decoded «pitch_bits» (now (s .entry)) at)) × (r .stop ≡ isStop (decoded «pitch_bits» (now (s .entry)) at)) ⌝ }
@@ -77,10 +78,10 @@ fn extent_at(s: &[u8], at: usize, pitch_bits: usize) -> Extent
     }
 }
 
-// A frame is skipped whole: whether it is a stop, and the bit after it. Or the bits end inside it or before it.
+// A frame is skipped whole, with whether it is a stop and the bit after it, or the bits end inside it or before it.
 pub(crate) enum Skipped {
     Past(bool, usize),
-    RanOut,
+    Cut,
 }
 
 // The frame at bit `at`, skipped.
@@ -94,6 +95,6 @@ pub(crate) fn skip_frame(s: &[u8], at: usize, pitch_bits: usize) -> Skipped
     if next <= 8 * s.len() {
         Skipped::Past(stop, next)
     } else {
-        Skipped::RanOut
+        Skipped::Cut
     }
 }

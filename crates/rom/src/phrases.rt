@@ -52,7 +52,7 @@ fn accept(bits: usize, count: u32) -> Walked
     }
 }
 
-// The frames from bit `start` on, through the first stop.
+// The walk from bit `start` on, through the first stop, of an image that has passed the checks.
 fn walk_from(image: &[u8], start: usize, pitch_bits: usize) -> Walked
     requires { ⌜ («pitch_bits» ≤ 8) × (length (now image) ≤ imageLimit) × (start ≤ 8 * length (now image)) ⌝ }
     ensures { λ r. ⌜ r ≡ walkedOver «pitch_bits» (framesFrom «pitch_bits» (now (image .entry)) start (8 * length (now (image .entry)))) ⌝ }

@@ -59,7 +59,7 @@ fn voiced_at(s: &[u8], at: usize, energy: u8, pitch: u8) -> Frame
     }
 }
 
-// The frame in the bits from bit `at` on, as if zeros followed the last.
+// The frame in the bits from bit `at` on, as if zeros followed the last bit of s.
 fn decode(s: &[u8], at: usize, pitch_bits: usize) -> Frame
     requires { ⌜ («pitch_bits» ≤ 8) × (at < 2 ^ 32 - 64) ⌝ }
     ensures { λ r. ⌜ r ≡ decoded «pitch_bits» (now (s .entry)) at ⌝ }

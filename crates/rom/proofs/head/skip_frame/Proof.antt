@@ -3,7 +3,7 @@ use borrow.Author.Needs.{needs}
 use native.Mathlib.Omega.{arith}
 use Rattle.rom.specs.Reader.{decoded}
 use Rattle.rom.proofs.Decoding.{bit-count-bounds}
-use Rattle.rom.proofs.Extents.{skip-past, skip-short}
+use Rattle.rom.proofs.Extents.{skip-past, skip-cut}
 use Rattle.rom.proofs.head.skip_frame.Statement.{statement}
 use Rattle.rom.proofs.head.skip_frame.Tie as tie
 
@@ -23,4 +23,4 @@ skip-frame-spec =
     (λ c.
     let e = c .before .before in
     let a = e .before .before .args in
-    skip-short (a .pitch-bits) (a .s .now) (a .at) (e .extent-at .ensures) (c .if1 .left)))
+    skip-cut (a .pitch-bits) (a .s .now) (a .at) (e .extent-at .ensures) (c .if1 .left)))

@@ -8,7 +8,7 @@ use Rattle.rom.specs.Frames.{isStop}
 use Rattle.rom.specs.Reader.{frameAt}
 use Rattle.rom.specs.declared.frames.Frame.{Frame}
 use Rattle.rom.specs.declared.reader.Taken.the-variants.{Whole}
-use Rattle.rom.proofs.Extents.{past-is, ran-out-is}
+use Rattle.rom.proofs.Extents.{past-is, skipped-cut}
 use Rattle.rom.proofs.Walking.{Come, come-first, come-cut, come-stop, come-on, next-is}
 use Rattle.rom.proofs.phrases.walk_from.Statement.{statement}
 use Rattle.rom.proofs.phrases.walk_from.Tie as tie
@@ -50,7 +50,7 @@ walk-from-spec =
     (λ c κs. search needs)
     (λ c.
     let e = sym (c .before .enum-told .given .1) ∙ c .before .before .before .skip-frame .ensures in
-    c .refuse .ensures ∙ come-cut (c .before .before .before .before .loop .inv) (ran-out-is e))
+    c .refuse .ensures ∙ come-cut (c .before .before .before .before .loop .inv) (skipped-cut e))
     (λ c. search needs)
     (λ c. omega (arith, skipped-next (c .before .before)))
     (λ c κs. search needs)

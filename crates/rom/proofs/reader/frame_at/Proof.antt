@@ -1,7 +1,7 @@
 -- `rom::reader::frame_at` meets its contract. Assumes nothing.
 use borrow.Author.Needs.{needs}
 use mathlib.Core.Path.{sym, _∙_}
-use Rattle.rom.proofs.Extents.{ran-out-is, taken-is}
+use Rattle.rom.proofs.Extents.{skipped-cut, taken-is}
 use Rattle.rom.proofs.reader.frame_at.Statement.{statement}
 use Rattle.rom.proofs.reader.frame_at.Tie as tie
 
@@ -12,7 +12,7 @@ frame-at-spec =
     (λ c κs. search needs)
     (λ c. search needs)
     (λ c. search needs)
-    (λ c. ran-out-is (sym (c .enum-told .given .1) ∙ c .before .before .skip-frame .ensures))
+    (λ c. skipped-cut (sym (c .enum-told .given .1) ∙ c .before .before .skip-frame .ensures))
     (λ c κs. search needs)
     (λ c.
     let k = c .before .before .before .before in
