@@ -5,9 +5,9 @@ use mathlib.Core.List.{List}
 use Prim.Native.Nat.{ℕ, _≤_}
 use native.Mathlib.Omega.{arith}
 use lib.ListN.{length}
-use Rattle.rom.specs.Frames.{fieldsOf, bitsOf, bitCount}
+use Rattle.rom.specs.Frames.{fieldsOf, bitsOf}
 use Rattle.rom.specs.Reader.{frameAt}
-use Rattle.rom.specs.Items.{whole}
+use Rattle.rom.specs.Items.{whole, Lawful}
 use Rattle.rom.specs.Phrases.{frameCode, readOf}
 use Rattle.rom.specs.declared.frames.Frame.{Frame}
 use Rattle.rom.specs.declared.reader.Taken.{Taken}
@@ -15,7 +15,6 @@ use Rattle.rom.specs.declared.reader.Taken.the-variants.{Whole, Cut}
 use Rattle.rom.proofs.Encoding.{length-encoded}
 use Rattle.rom.proofs.Decoding.{bit-count-bounds}
 use Rattle.rom.proofs.CentralLaw.{central-law}
-use Rattle.rom.proofs.ItemLaws.{Lawful}
 
 -- a frame has at least four bits
 pub four-bits : (P : ℕ) (f : Frame) → 4 ≤ length (bitsOf P f)

@@ -5,18 +5,15 @@ use mathlib.Core.Path.{_≡_, refl, sym, ap, _∙_, subst}
 use mathlib.Core.Logic.{_↔_}
 use mathlib.Core.Bool.{Bool, true, false, cond, _||_, true≢false, false≢true}
 use mathlib.Core.List.{List, [], _∷_, _++_}
-use Prim.Native.Nat.{ℕ, zero, suc, _+_, _*_, _≤_, _<_}
+use Prim.Native.Nat.{ℕ, zero, suc, _+_, _*_, _≤_}
 use native.Mathlib.Omega.{arith}
 use lib.ListN.{length, length-append}
-use Rattle.rom.specs.Bits.{Begins}
-use Rattle.rom.specs.Items.{Read, whole, cut, Code, bitsAll, Encoded, Ended, last, more, Phrase, Longest, There, phrase, none, itemsOf, itemsFrom, hasStop}
+use Rattle.rom.specs.Items.{Code, Read, whole, cut, Lawful, bitsAll, Encoded, Ended, last, more, Phrase, There, phrase, none, itemsOf, itemsFrom, hasStop}
 use Rattle.rom.proofs.Encoding.{begins-room, begins-join, begins-split}
 
--- an item is read exactly where its bits stand, and has a bit
-pub record Lawful (C : Code) (s : List ℕ) (read : ℕ → Read (C .Item)) : Type 0 where
-  pub law : (at : ℕ) (f : C .Item) (n : ℕ)
-      → (read at ≡ whole f n) ↔ (C .Proper f × Begins s at (C .bits f) × (n ≡ at + length (C .bits f)))
-  pub some : (f : C .Item) → 0 < length (C .bits f)
+pub has-stop : {C : Code} {fs : List (C .Item)} → Ended C fs → hasStop C fs ≡ true
+has-stop (last t) = rw t
+has-stop (more t d) = rw t (has-stop d)
 
 module _ (C : Code) (s : List ℕ) (read : ℕ → Read (C .Item)) (lawful : Lawful C s read) where
   next-in : (at : ℕ) {f : C .Item} {n : ℕ} → read at ≡ whole f n → n ≤ 8 * length s
@@ -104,10 +101,6 @@ module _ (C : Code) (s : List ℕ) (read : ℕ → Read (C .Item)) (lawful : Law
           → (ts : List (C .Item)) × (itemsFrom C read at (suc n) ≡ g ∷ (gs ++ ts))
       go ih true e q = absurd (true≢false q)
       go ih false e q = let r = ih q in (r .0, rw (first h .0, e, r .1))
-
-  has-stop : {fs : List (C .Item)} → Ended C fs → hasStop C fs ≡ true
-  has-stop (last t) = rw t
-  has-stop (more t d) = rw t (has-stop d)
 
   append-nothing : (fs ts : List (C .Item)) → length (fs ++ ts) ≤ length fs → fs ++ ts ≡ fs
   append-nothing [] [] h = refl

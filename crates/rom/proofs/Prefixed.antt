@@ -1,14 +1,15 @@
--- Frames behind a prefix of any width are items whose reader obeys the central law.
+-- Frames behind a prefix of any width are items whose reader obeys the central law, so that the laws of items hold of them.
 -- Assumes nothing.
-use mathlib.Core.Path.{_≡_, refl, sym, ap, _∙_}
-use mathlib.Core.List.{List, _++_}
-use Prim.Native.Nat.{ℕ, _+_, _≤_, _<_}
+use mathlib.Core.Path.{_≡_, ap, _∙_}
+use mathlib.Core.List.{List}
+use Prim.Native.Nat.{ℕ, _+_}
 use native.Mathlib.Omega.{arith}
 use lib.ListN.{length, length-append}
 use Rattle.rom.specs.Bits.{digits, Begins}
 use Rattle.rom.specs.Frames.{bitsOf}
 use Rattle.rom.specs.Items.{whole}
 use Rattle.rom.specs.Prefix.{prefixedCode, withPrefix, readPrefixed}
+use Rattle.rom.specs.Theorems.{PrefixedLaw, PrefixedRead}
 use Rattle.rom.specs.declared.frames.Frame.{Frame}
 use Rattle.rom.specs.declared.reader.Taken.{Taken}
 use Rattle.rom.specs.declared.reader.Taken.the-variants.{Whole, Cut}
@@ -16,7 +17,7 @@ use Rattle.rom.proofs.Fields.{field-lt}
 use Rattle.rom.proofs.Encoding.{length-digits, digits-field, field-digits, begins-room, begins-join, begins-split}
 use Rattle.rom.proofs.CentralLaw.{central-law}
 use Rattle.rom.proofs.FrameCode.{four-bits}
-use Rattle.rom.proofs.ItemLaws.{Lawful}
+use Rattle.rom.proofs.ItemLaws.{there-read}
 
 is-whole : {q : ℕ} {t : Taken} {i : ℕ × Frame} {n : ℕ} → withPrefix q t ≡ whole i n → (q ≡ i .0) × (t ≡ Whole (i .1) n)
 is-whole {q} {t = Whole g m} {i} {n} e =
@@ -48,8 +49,11 @@ module _ (Q P : ℕ) where
         let l : n ≡ at + Q + length (bitsOf P (i .1)) = omega (arith, length-prefixed i) in
         rw (central-law P s (at + Q) (i .1) n .1 (k .1, rw (length-digits Q (i .0)) at (b .1), l), digits-field s at Q (i .0) (k .0) (b .0))
 
-  pub prefixed-lawful : (s : List ℕ) → Lawful (prefixedCode Q P) s (readPrefixed Q P s)
-  prefixed-lawful s = record {
-    law = λ at i n. (sound s at i n, λ h. complete s at i n (h .0) (h .1) (h .2));
-    some = λ i. omega (arith, length-prefixed i, four-bits P (i .1));
-  }
+pub prefixed-law : PrefixedLaw
+prefixed-law Q P s = record {
+  law = λ at i n. (sound Q P s at i n, λ h. complete Q P s at i n (h .0) (h .1) (h .2));
+  some = λ i. omega (arith, length-prefixed Q P i, four-bits P (i .1));
+}
+
+pub prefixed-read : PrefixedRead
+prefixed-read Q P s at fs h = there-read (prefixedCode Q P) s _ (prefixed-law Q P s) at h fs

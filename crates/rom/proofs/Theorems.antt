@@ -3,7 +3,7 @@
 use mathlib.Core.Path.{_≡_, refl, sym, ap, _∙_}
 use mathlib.Core.Logic.{_↔_}
 use mathlib.Core.Bool.{Bool, true, false}
-use mathlib.Core.List.{List, [], _∷_}
+use mathlib.Core.List.{List, _∷_}
 use Prim.Native.Nat.{ℕ, _+_, _*_, _≤_, _<_}
 use native.Mathlib.Omega.{arith}
 use borrow.Author.Tests.{lt-leb, eqb-true, eqb-false}
@@ -11,7 +11,7 @@ use lib.Dec.{leb, eqb}
 use lib.ListN.{length, length-append}
 use Rattle.rom.specs.Bits.{imageValid, imageFault}
 use Rattle.rom.specs.Frames.{bitsOf}
-use Rattle.rom.specs.Items.{Ended, last, more, hasStop, bitsAll}
+use Rattle.rom.specs.Items.{Ended, hasStop, bitsAll}
 use Rattle.rom.specs.Phrases.{frameCode, PhraseAt, framesAt, refused, walkedOver, walkOf}
 use Rattle.rom.specs.Theorems.{WalkAccepts, WalkCounts, WalkRefuses, PhraseUnique, FramesRead}
 use Rattle.rom.specs.declared.frames.Frame.{Frame}

@@ -1,13 +1,14 @@
 -- Items that are read one after another from the bits of an image, through the first that is a stop: frames of any pitch
 -- width, with or without a prefix.
 use mathlib.Core.Path.{_≡_}
+use mathlib.Core.Logic.{_↔_}
 use mathlib.Core.Bool.{Bool, true, false, cond, _||_}
 use mathlib.Core.List.{List, [], _∷_, _++_}
-use Prim.Native.Nat.{ℕ, zero, suc, _≤_}
+use Prim.Native.Nat.{ℕ, zero, suc, _+_, _≤_, _<_}
 use lib.ListN.{length}
 use Rattle.rom.specs.Bits.{Begins}
 
--- items with bits; a proper item is one whose bits say which it is
+-- items with bits; a proper item is one that the code has, so that its bits say which it is
 pub record Code : Type 1 where
   pub Item : Type 0
   pub Proper : Item → Type 0
@@ -20,6 +21,13 @@ pub data Read (A : Type 0) : Type 0 where
   cut : Read A
 
 module _ (C : Code) where
+  -- the central law, of any reader and its items: it answers a whole item exactly when the item is proper and its bits stand
+  -- there, with the bit after them; and no item is without a bit
+  pub record Lawful (s : List ℕ) (read : ℕ → Read (C .Item)) : Type 0 where
+    pub law : (at : ℕ) (f : C .Item) (next : ℕ)
+        → (read at ≡ whole f next) ↔ (C .Proper f × Begins s at (C .bits f) × (next ≡ at + length (C .bits f)))
+    pub some : (f : C .Item) → 0 < length (C .bits f)
+
   -- the bits of a list of items, one after another
   abbrev pub bitsAll : List (C .Item) → List ℕ
   bitsAll [] = []

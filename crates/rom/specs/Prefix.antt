@@ -1,5 +1,6 @@
--- Frames that each follow a prefix of Q bits, as the rate bits of the TMS5220C: items as plain frames are, so that the
--- theorems of the walk hold of them too. P is the width of the pitch field.
+-- Frames that each follow a prefix of Q bits, as the rate bits of the TMS5220C. They are for a device with such frames;
+-- the TMS5220 and TMS5200 have none. They are items as plain frames are, and their reader obeys the central law of its
+-- items (`PrefixedLaw`, `PrefixedRead` in Theorems). P is the width of the pitch field.
 use mathlib.Core.List.{List, _++_}
 use Prim.Native.Nat.{ℕ, _+_, _^_, _<_}
 use Rattle.rom.specs.Bits.{field, digits}

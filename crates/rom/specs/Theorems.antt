@@ -1,17 +1,18 @@
--- What is proved of the reader and the walk, for every image, address and width P of the pitch field. The file of the same
--- name in proofs/ has the proofs.
+-- What is proved of the reader and the walk, for every image, address and width P of the pitch field. The proofs are in
+-- proofs/: CentralLaw, Prefixed (of frames behind a prefix) and Theorems (of all else).
 use mathlib.Core.Path.{_≡_}
 use mathlib.Core.Logic.{_↔_}
 use mathlib.Core.Bool.{true}
 use mathlib.Core.List.{List}
-use Prim.Native.Nat.{ℕ, _+_, _<_}
+use Prim.Native.Nat.{ℕ, _+_, _*_, _≤_, _<_}
 use lib.ListN.{length}
 use Rattle.base.specs.Refusals.{TAKEN, NO-PHRASE}
 use Rattle.rom.specs.Bits.{imageValid, Begins}
 use Rattle.rom.specs.Frames.{Proper, bitsOf}
 use Rattle.rom.specs.Reader.{frameAt}
-use Rattle.rom.specs.Items.{bitsAll}
+use Rattle.rom.specs.Items.{Lawful, There, bitsAll, itemsFrom}
 use Rattle.rom.specs.Phrases.{frameCode, PhraseAt, FramesThere, framesAt, accepted, refused, walkOf}
+use Rattle.rom.specs.Prefix.{prefixedCode, readPrefixed}
 use Rattle.rom.specs.declared.frames.Frame.{Frame}
 use Rattle.rom.specs.declared.reader.Taken.the-variants.{Whole}
 
@@ -48,3 +49,13 @@ PhraseUnique = (P : ℕ) (s : List ℕ) (a : ℕ) (fs gs : List Frame) → Phras
 -- phrase or, where none begins, those of the longest list.
 abbrev pub FramesRead : Type 0
 FramesRead = (P : ℕ) (s : List ℕ) (a : ℕ) (fs : List Frame) → a < length s → FramesThere P s a fs ↔ (framesAt P s a ≡ fs)
+
+-- The reader of frames behind a prefix of Q bits obeys the central law of these items.
+abbrev pub PrefixedLaw : Type 0
+PrefixedLaw = (Q P : ℕ) (s : List ℕ) → Lawful (prefixedCode Q P) s (readPrefixed Q P s)
+
+-- What it finds from a bit of the image on are the items there, and no others are.
+abbrev pub PrefixedRead : Type 0
+PrefixedRead =
+    (Q P : ℕ) (s : List ℕ) (at : ℕ) (fs : List (ℕ × Frame)) → at ≤ 8 * length s
+    → There (prefixedCode Q P) s at fs ↔ (itemsFrom (prefixedCode Q P) (readPrefixed Q P s) at (8 * length s) ≡ fs)
