@@ -1,31 +1,25 @@
 -- The reader's central law, for every width of the pitch: a frame is read at a bit exactly where the image's bits begin with
 -- its bits.
 -- Assumes nothing.
-use mathlib.Core.Path.{_≡_, refl, sym, ap, _∙_}
-use mathlib.Core.Bool.{Bool, true, false, cond}
+use mathlib.Core.Path.{_≡_, refl, sym, ap, _∙_, subst}
 use mathlib.Core.List.{List, [], _∷_}
-use Prim.Native.Nat.{ℕ, _+_, _*_, _≤_, _<_}
+use Prim.Native.Nat.{ℕ, _+_, _*_, _≤_}
 use native.Mathlib.Nat.{add-zero}
 use native.Mathlib.Omega.{arith}
-use borrow.Author.Tests.{eqb-true, eqb-false, leb-true}
-use lib.Dec.{eqb, leb}
+use borrow.Author.Tests.{eqb-true, eqb-false}
+use lib.Dec.{eqb}
 use lib.ListN.{length}
+use Rattle.base.proofs.Booleans.{by-test}
 use Rattle.rom.specs.Bits.{field, Begins}
 use Rattle.rom.specs.Frames.{fieldsOf, OfKind, Proper, bitsOf, bitCount}
 use Rattle.rom.specs.Reader.{silenceCode, stopCode, decoded, frameAt}
 use Rattle.rom.specs.Theorems.{CentralLaw}
 use Rattle.rom.specs.declared.frames.Frame.{Frame}
 use Rattle.rom.specs.declared.frames.Frame.the-variants.{Silence, Stop, Repeat, Unvoiced, Voiced}
-use Rattle.rom.specs.declared.reader.Taken.{Taken}
-use Rattle.rom.specs.declared.reader.Taken.the-variants.{Whole, Cut}
+use Rattle.rom.specs.declared.reader.Taken.the-variants.{Whole}
 use Rattle.rom.proofs.Fields.{field-lt}
 use Rattle.rom.proofs.Encoding.{Reads, reads, begins, rebase, begins-room, length-encoded}
-use Rattle.rom.proofs.Decoding.{silence-is, stop-is, repeat-is, unvoiced-is, voiced-is, whole-is}
-
--- what holds of x where b is true and of y where it is false holds of the one that b picks
-by-test : {A : Type 0} (C : A → Type 0) (b : Bool) {x y : A} → (b ≡ true → C x) → (b ≡ false → C y) → C (cond b x y)
-by-test C true f g = f refl
-by-test C false f g = g refl
+use Rattle.rom.proofs.Decoding.{silence-is, stop-is, repeat-is, unvoiced-is, voiced-is, whole-is, whole-decoded}
 
 module _ (P : ℕ) (s : List ℕ) (at : ℕ) where
   -- energy, repeat and pitch, and the fields from bit at + 5 + P on
@@ -88,18 +82,11 @@ module _ (P : ℕ) (s : List ℕ) (at : ℕ) where
   bits-counted f = length-encoded (fieldsOf P f)
 
   sound : (f : Frame) (n : ℕ) → frameAt P s at ≡ Whole f n → Proper P f × Begins s at (bitsOf P f) × (n ≡ at + length (bitsOf P f))
-  unfolding frameAt Good
-  sound f n h = go (leb (at + bitCount P (decoded P s at)) (8 * length s)) refl h
-    where
-      go : (b : Bool) → leb (at + bitCount P (decoded P s at)) (8 * length s) ≡ b
-          → cond b (Whole (decoded P s at) (at + bitCount P (decoded P s at))) Cut ≡ Whole f n
-          → Proper P f × Begins s at (bitsOf P f) × (n ≡ at + length (bitsOf P f))
-      go true e q =
-          let g = decoded-good (leb-true _ _ e) in
-          let ef : decoded P s at ≡ f = cc in
-          let en : at + bitCount P (decoded P s at) ≡ n = cc in
-          (rw ef at (g .0), rw ef at (g .1), rw bits-counted (rw ef at (sym en)))
-      go false e q = let z : _≡_ {A = ℕ} 0 1 = cc in absurd (omega arith)
+  unfolding Good
+  sound f n h =
+      let w = whole-decoded P s at (sym h) in
+      let g = subst Good (sym (w .0)) decoded-good (omega (arith, w .1, w .2)) in
+      (g .0, g .1, rw bits-counted (w .1))
 
   complete : (f : Frame) → Proper P f → Begins s at (bitsOf P f) → frameAt P s at ≡ Whole f (at + length (bitsOf P f))
   complete f k h =

@@ -1,13 +1,13 @@
 -- The head of a frame as one field; which frame is decoded, by its fields, and whether it is whole: a law for each answer.
 -- Assumes nothing.
-use mathlib.Core.Path.{_≡_, refl}
-use mathlib.Core.Bool.{Bool, true, false, cond}
+use mathlib.Core.Path.{_≡_}
 use mathlib.Core.List.{List}
 use Prim.Native.Nat.{ℕ, _+_, _*_, _/_, _%_, _^_, _≤_, _<_}
-use borrow.Author.Tests.{ne-eqb, le-leb, lt-leb}
+use borrow.Author.Tests.{ne-eqb, le-leb, lt-leb, leb-true}
 use native.Mathlib.Omega.{arith}
 use lib.Dec.{leb}
 use lib.ListN.{length}
+use Rattle.base.proofs.Booleans.{by-test}
 use Rattle.rom.specs.Bits.{field}
 use Rattle.rom.specs.Frames.{bitCount}
 use Rattle.rom.specs.Reader.{silenceCode, stopCode, unvoicedAt, voicedAt, decoded, frameAt}
@@ -60,18 +60,19 @@ module _ (P : ℕ) (s : List ℕ) (at : ℕ) where
     unfolding frameAt
     cut-is h = simp (← hf, ← hn, lt-leb _ _ h)
 
-  -- a whole frame is the one decoded, and ends after its bits
-  pub whole-decoded : {f : Frame} {n : ℕ} → Whole f n ≡ frameAt P s at → (f ≡ decoded P s at) × (n ≡ at + bitCount P f)
+  -- a whole frame is the one decoded, ends after its bits, and ends within the image
+  pub whole-decoded : {f : Frame} {n : ℕ} → Whole f n ≡ frameAt P s at
+      → (f ≡ decoded P s at) × (n ≡ at + bitCount P f) × (n ≤ 8 * length s)
   unfolding frameAt
-  whole-decoded {f} {n} h = go (leb (at + bitCount P (decoded P s at)) (8 * length s)) h
-    where
-      go : (b : Bool) → Whole f n ≡ cond b (Whole (decoded P s at) (at + bitCount P (decoded P s at))) Cut
-          → (f ≡ decoded P s at) × (n ≡ at + bitCount P f)
-      go true e =
-          let d : f ≡ decoded P s at = cc in
-          let m : n ≡ at + bitCount P (decoded P s at) = cc in
-          (d, rw d m)
-      go false e = let z : _≡_ {A = ℕ} 0 1 = cc in absurd (omega arith)
+  whole-decoded {f} {n} h =
+      by-test (λ t. Whole f n ≡ t → (f ≡ decoded P s at) × (n ≡ at + bitCount P f) × (n ≤ 8 * length s))
+      (leb (at + bitCount P (decoded P s at)) (8 * length s))
+      (λ room e.
+      let d : f ≡ decoded P s at = cc in
+      let m : n ≡ at + bitCount P (decoded P s at) = cc in
+      (d, rw d m, rw m (leb-true _ _ room)))
+      (λ room e. let z : _≡_ {A = ℕ} 0 1 = cc in absurd (omega arith))
+      h
 
 pub bit-count-bounds : (P : ℕ) (f : Frame) → (4 ≤ bitCount P f) × (bitCount P f ≤ 44 + P)
 bit-count-bounds P Silence = omega arith

@@ -1,6 +1,5 @@
 -- `rom::phrases::accept` meets its contract. Assumes nothing.
 use borrow.Author.Needs.{needs}
-use native.Mathlib.Omega.{arith}
 use Rattle.rom.proofs.phrases.accept.Statement.{statement}
 use Rattle.rom.proofs.phrases.accept.Tie as tie
 
