@@ -3,12 +3,12 @@ ghost use mathlib.Core.Path.{_≡_};
 ghost use Rattle.voice.specs.Layout.{pitches, energyAt, pitchAt, kAt, pulseAt};
 use crate::layout::PITCHES;
 use crate::layout::Table;
-use crate::layout::byte_at;
 use crate::layout::count_at;
 use crate::layout::entry_at;
 use crate::layout::k_begin;
 use crate::layout::signed_byte;
 use crate::layout::signed_word;
+use base::bytes::byte_at;
 
 pub fn energy(file: &[u8], index: u8) -> i32
     ensures { λ r. ⌜ r ≡ energyAt pitches (now (file .entry)) index ⌝ }
@@ -22,34 +22,22 @@ pub fn pitch(file: &[u8], index: u8) -> i32
     entry_at(file, PITCHES, Table::Pitch, index as u16) as i32
 }
 
-// The value at index `index` of K number `number`, K1 being number 0, in a file with that many pitches.
-pub fn k_value(file: &[u8], pitches: u8, number: usize, index: u8) -> i32
-    ensures { λ r. ⌜ r ≡ kAt pitches (now (file .entry)) number index ⌝ }
-{
-    signed_word(entry_at(file, pitches, Table::K, k_begin(number) + index as u16))
-}
-
+// The value of K number `number`, K1 being number 0.
 pub fn k(file: &[u8], number: usize, index: u8) -> i32
     ensures { λ r. ⌜ r ≡ kAt pitches (now (file .entry)) number index ⌝ }
 {
-    k_value(file, PITCHES, number, index)
+    signed_word(entry_at(file, PITCHES, Table::K, k_begin(number) + index as u16))
 }
 
-// The pulse at a place, 0 past the end, in a file with that many pitches.
-pub fn pulse_value(file: &[u8], pitches: u8, place: u32) -> i32
+// The pulse at a place, 0 past the last.
+pub fn pulse(file: &[u8], place: u32) -> i32
     ensures { λ r. ⌜ r ≡ pulseAt pitches (now (file .entry)) place ⌝ }
 {
-    let count_place = count_at(pitches);
+    let count_place = count_at(PITCHES);
     let count = byte_at(file, count_place);
     if place < count as u32 {
         signed_byte(byte_at(file, count_place + 1 + place as usize))
     } else {
         0
     }
-}
-
-pub fn pulse(file: &[u8], place: u32) -> i32
-    ensures { λ r. ⌜ r ≡ pulseAt pitches (now (file .entry)) place ⌝ }
-{
-    pulse_value(file, PITCHES, place)
 }

@@ -1,12 +1,12 @@
--- `voice::lookup::pulse_value` meets its contract. Assumes nothing.
+-- `voice::lookup::pulse` meets its contract. Assumes nothing.
 use borrow.Author.Needs.{needs}
 use Rattle.base.proofs.Range.{back}
 use Rattle.voice.proofs.Places.{pulse-within, pulse-past}
-use Rattle.voice.proofs.lookup.pulse_value.Statement.{statement}
-use Rattle.voice.proofs.lookup.pulse_value.Tie as tie
+use Rattle.voice.proofs.lookup.pulse.Statement.{statement}
+use Rattle.voice.proofs.lookup.pulse.Tie as tie
 
-pub pulse-value-spec : {M : Type 1} → statement M
-pulse-value-spec =
+pub pulse-spec : {M : Type 1} → statement M
+pulse-spec =
     tie.close
     (tie.spec
     (λ c κs. search needs)

@@ -1,14 +1,14 @@
--- `voice::lookup::k_value` meets its contract. Assumes nothing.
+-- `voice::lookup::k` meets its contract. Assumes nothing.
 use borrow.Author.Needs.{needs}
 use native.Mathlib.Omega.{arith}
 use Rattle.voice.specs.Layout.{kCounts}
 use Rattle.base.proofs.Range.{back}
 use Rattle.voice.proofs.Places.{total-take-le}
-use Rattle.voice.proofs.lookup.k_value.Statement.{statement}
-use Rattle.voice.proofs.lookup.k_value.Tie as tie
+use Rattle.voice.proofs.lookup.k.Statement.{statement}
+use Rattle.voice.proofs.lookup.k.Tie as tie
 
-pub k-value-spec : {M : Type 1} → statement M
-k-value-spec =
+pub k-spec : {M : Type 1} → statement M
+k-spec =
     tie.close
     (tie.spec
     (λ c κs. search needs)
