@@ -2,7 +2,7 @@
 -- Assumes nothing.
 use mathlib.Core.Path.{_≡_}
 use mathlib.Core.Logic.{⊎-elim}
-use mathlib.Core.Bool.{Bool, true, false, cond, _&&_}
+use mathlib.Core.Bool.{Bool, true, _&&_}
 use mathlib.Core.List.{List}
 use Prim.Native.Nat.{ℕ, zero, suc, _+_, _≤_, _<_}
 use native.Mathlib.Nat.{eq-or-lt-of-le}
@@ -10,7 +10,7 @@ use native.Mathlib.Numerals.{add-one}
 use native.Mathlib.Omega.{arith}
 use borrow.Author.Tests.{eqb-true, leb-true}
 use lib.Dec.{eqb, leb}
-use Rattle.base.proofs.Booleans.{both-true}
+use Rattle.base.proofs.Booleans.{both-true, by-test}
 use Rattle.voice.specs.Layout.{entryAt}
 use Rattle.voice.specs.Check.{unsignedValid, entryValid, entriesValid}
 use Rattle.voice.specs.declared.layout.Table.{Table}
@@ -31,8 +31,7 @@ module _ (N : ℕ) (file : List ℕ) (t : Table) where
 
 -- an energy or a pitch in range is at most 1023
 pub unsigned-most : (least i w : ℕ) → unsignedValid least i w ≡ true → w ≤ 1023
-unsigned-most least i w e = go (eqb i 0) e
-  where
-    go : (first : Bool) → cond first (eqb w 0) (leb least w && leb w 1023) ≡ true → w ≤ 1023
-    go true h = omega (arith, eqb-true w 0 h)
-    go false h = leb-true w 1023 (both-true (leb least w) (leb w 1023) h .1)
+unsigned-most least i w e =
+    by-test (λ (valid : Bool). valid ≡ true → w ≤ 1023) (eqb i 0)
+    (λ first h. omega (arith, eqb-true w 0 h))
+    (λ later h. leb-true w 1023 (both-true (leb least w) (leb w 1023) h .1)) e

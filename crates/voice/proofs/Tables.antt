@@ -1,7 +1,7 @@
 -- The tables end where the pulse count stands: what follows does not bear on their values.
 -- Assumes nothing.
 use mathlib.Core.Path.{_≡_, refl, ap, ap₂}
-use mathlib.Core.Bool.{Bool, true, false, not, _&&_, _||_, true≢false}
+use mathlib.Core.Bool.{false, _&&_}
 use mathlib.Core.List.{List}
 use Prim.Native.Nat.{ℕ, zero, suc, _+_, _*_, _≤_, _<_}
 use native.Mathlib.Omega.{arith}
@@ -9,6 +9,7 @@ use borrow.Author.Tests.{ltb-false}
 use lib.Dec.{ltb}
 use lib.ListN.{length, take}
 use lib.Seq.{getD-take}
+use Rattle.base.proofs.Booleans.{neither}
 use Rattle.voice.specs.Layout.{entries, tableStart, entryAt, countAt, pulseStart}
 use Rattle.voice.specs.Check.{pulseLimit, sizeFault, entryValid, entriesValid, tableValid, valueFault}
 use Rattle.voice.specs.declared.layout.Table.{Table}
@@ -40,8 +41,6 @@ module _ (N : ℕ) (file : List ℕ) where
 
   -- a file of a possible size reaches the pulse count
   pub tables-whole : sizeFault N file ≡ false → countAt N ≤ length file
-  tables-whole h = go (ltb (length file) (pulseStart N + 1)) refl h
-    where
-      go : (t : Bool) → ltb (length file) (pulseStart N + 1) ≡ t → (t || ltb (pulseStart N + pulseLimit) (length file)) ≡ false → countAt N ≤ length file
-      go true e k = absurd (true≢false k)
-      go false e k = omega (arith, ltb-false (length file) (pulseStart N + 1) e)
+  tables-whole h =
+      let sizes = neither (ltb (length file) (pulseStart N + 1)) (ltb (pulseStart N + pulseLimit) (length file)) h in
+      omega (arith, ltb-false (length file) (pulseStart N + 1) (sizes .0))

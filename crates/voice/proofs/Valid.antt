@@ -1,18 +1,17 @@
 -- Each look-up in a voice file without a fault is in its range.
 -- Assumes nothing.
 use mathlib.Core.Path.{_≡_}
-use mathlib.Core.Bool.{Bool, true, false, cond, _&&_}
+use mathlib.Core.Bool.{Bool, true, _&&_}
 use mathlib.Core.List.{List}
 use Prim.Native.Nat.{ℕ, _+_, _<_}
 use native.Mathlib.Omega.{arith}
 use borrow.Author.Tests.{not-false}
 use lib.Dec.{ltb}
-use lib.IntN.{pos}
 use Rattle.base.specs.Range.{Between}
 use Rattle.base.proofs.Faults.{none-first}
-use Rattle.base.proofs.Booleans.{both-true}
+use Rattle.base.proofs.Booleans.{both-true, by-test}
 use Rattle.base.proofs.Range.{signed, tested}
-use Rattle.voice.specs.Layout.{byteAt, signedByte, kCounts, kBegin, entries, entryAt, pulseStart, pulseCount, pulseAt}
+use Rattle.voice.specs.Layout.{kCounts, kBegin, entries, entryAt, pulseCount, pulseAt}
 use Rattle.voice.specs.Check.{sizeFault, lengthFault, versionFault, valueFault, entryValid, tableValid, voiceFault}
 use Rattle.voice.specs.Valid.{InRange}
 use Rattle.voice.specs.declared.layout.Table.{Table}
@@ -24,11 +23,8 @@ use Rattle.voice.proofs.Signed.{signed-range}
 -- a pulse is a signed byte, in any file
 pub pulse-range : (N : ℕ) (file : List ℕ) (place : ℕ) → Between 128 127 (pulseAt N file place)
 unfolding pulseAt
-pulse-range N file place = go (ltb place (pulseCount N file))
-  where
-    go : (within : Bool) → Between 128 127 (cond within (signedByte (byteAt file (pulseStart N + place))) (pos 0))
-    go true = signed-range 127 (byteAt file (pulseStart N + place))
-    go false = omega arith
+pulse-range N file place =
+    by-test (Between 128 127) (ltb place (pulseCount N file)) (λ within. signed-range 127 _) (λ past. omega arith)
 
 module _ (N v : ℕ) (file : List ℕ) (valid : voiceFault N v file ≡ 0) where
   -- every table of a valid file is in range
