@@ -3,8 +3,8 @@
 use mathlib.Core.Path.{_≡_, refl}
 use mathlib.Core.List.{[], _∷_}
 use Prim.Native.Nat.{_+_}
-use Rattle.voice.specs.Layout.{pitches, kCounts, entries, tableStart, countAt, pulseStart}
-use Rattle.voice.specs.Check.{pulseLimit, lengthWith}
+use Rattle.voice.specs.Layout.{pitches, kCounts, entries, tableStart, countAt, pulseStart, lengthWith}
+use Rattle.voice.specs.Check.{pulseLimit}
 use Rattle.voice.specs.declared.layout.Table.the-variants.{Energy, Pitch, K}
 use Rattle.voice.proofs.Places.{begins}
 

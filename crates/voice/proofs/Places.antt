@@ -8,7 +8,8 @@ use borrow.Author.Tests.{lt-ltb, le-ltb}
 use lib.IntN.{ℤ, pos}
 use lib.ListN.{length, getD, take}
 use lib.Seq.{take-all, take-nil}
-use Rattle.voice.specs.Layout.{byteAt, signedByte, total, kCounts, kBegin, tableStart, countAt, pulseAt}
+use Rattle.base.specs.Bytes.{byteAt}
+use Rattle.voice.specs.Layout.{signedByte, total, kCounts, kBegin, tableStart, countAt, pulseAt}
 use Rattle.voice.specs.declared.layout.Table.{Table}
 use Rattle.voice.specs.declared.layout.Table.the-variants.{Energy, Pitch, K}
 

@@ -1,20 +1,17 @@
 -- Fault 9 of a voice file without faults 5 and 6: the pulses do not end with the file.
 -- Assumes nothing.
-use mathlib.Core.Path.{_≡_, refl, subst}
-use mathlib.Core.Bool.{Bool, true, false, not, _||_, or-true}
+use mathlib.Core.Path.{_≡_, refl}
+use mathlib.Core.Bool.{Bool, true, false, not, or-true}
 use mathlib.Core.List.{List}
 use Prim.Native.Nat.{ℕ, _+_, _≤_}
 use native.Mathlib.Omega.{arith}
 use borrow.Author.Tests.{not-false, eqb-true, eqb-false, ltb-false, eq-eqb, ne-eqb, le-ltb}
-use lib.Dec.{T, eqb, ltb}
+use lib.Dec.{eqb, ltb}
 use lib.ListN.{length}
-use Rattle.voice.specs.Layout.{lengthField, pulseStart, pulseCount}
-use Rattle.voice.specs.Check.{pulseLimit, lengthWith, pulseFault}
+use Rattle.base.proofs.Booleans.{neither}
+use Rattle.voice.specs.Layout.{lengthWith, lengthField, pulseStart, pulseCount}
+use Rattle.voice.specs.Check.{pulseLimit, pulseFault}
 use Rattle.voice.specs.Valid.{PulsesEndFile}
-
-neither : (a b : Bool) → (a || b) ≡ false → (a ≡ false) × (b ≡ false)
-neither true b e = absurd (subst T e tt)
-neither false b e = (refl, e)
 
 pub pulses-end-file : (N : ℕ) (file : List ℕ) → PulsesEndFile N file
 pulses-end-file N file s l =

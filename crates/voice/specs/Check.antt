@@ -2,13 +2,13 @@
 -- version: 64 and 1 here.
 use mathlib.Core.Bool.{Bool, true, cond, not, _&&_, _||_}
 use mathlib.Core.List.{List, [], _∷_}
-use Prim.Native.Nat.{ℕ, zero, suc, _+_, _*_}
+use Prim.Native.Nat.{ℕ, zero, suc, _+_}
 use lib.Dec.{eqb, leb, ltb}
 use lib.IntN.{pos, negℤ}
 use lib.ListN.{length}
 use Rattle.base.specs.Range.{inside}
 use Rattle.base.specs.Refusals.{VOICE-SIZE, VOICE-LENGTH, VOICE-VERSION, VOICE-VALUE, VOICE-PULSE, firstFault}
-use Rattle.voice.specs.Layout.{signedWord, entries, lengthField, versionByte, entryAt, pulseStart, pulseCount}
+use Rattle.voice.specs.Layout.{signedWord, entries, lengthWith, lengthField, versionByte, entryAt, pulseStart, pulseCount}
 use Rattle.voice.specs.declared.layout.Table.{Table}
 use Rattle.voice.specs.declared.layout.Table.the-variants.{Energy, Pitch, K}
 
@@ -58,10 +58,6 @@ tableValid N file t = entriesValid N file t (entries N t)
 -- 8: a table value out of range
 abbrev pub valueFault : ℕ → List ℕ → Bool
 valueFault N file = not (tableValid N file Energy && tableValid N file Pitch && tableValid N file K)
-
--- the length field of a file with that many pulses: 496 + count at 64 pitches
-abbrev pub lengthWith : ℕ → ℕ → ℕ
-lengthWith N count = 368 + 2 * N + count
 
 -- 9: pulse count 0, over 64, or length field not 496 + count
 abbrev pub pulseFault : ℕ → List ℕ → Bool

@@ -4,17 +4,14 @@ use mathlib.Core.List.{List, [], _∷_}
 use Prim.Native.Nat.{ℕ, _+_, _*_, _/_, _%_}
 use lib.Dec.{ltb}
 use lib.IntN.{ℤ, pos, _-ℤ_}
-use lib.ListN.{getD, take}
+use lib.ListN.{take}
+use Rattle.base.specs.Bytes.{byteAt}
 use Rattle.voice.specs.declared.layout.Table.{Table}
 use Rattle.voice.specs.declared.layout.Table.the-variants.{Energy, Pitch, K}
 
 -- the pitches of the TMS5220 and TMS5200
 abbrev pub pitches : ℕ
 pitches = 64
-
--- byte i of a file; 0 past its end
-abbrev pub byteAt : List ℕ → ℕ → ℕ
-byteAt file i = getD file i 0
 
 -- the two bytes from byte `at` on, big-endian
 abbrev pub wordAt : List ℕ → ℕ → ℕ
@@ -41,7 +38,7 @@ abbrev pub total : List ℕ → ℕ
 total [] = 0
 total (n ∷ ns) = n + total ns
 
--- where K number n, K1 being number 0, begins among the K values: after those of the K before it
+-- where K number n, K1 being number 0, begins among the K values: after those of the K before it; 168 past K10
 abbrev pub kBegin : ℕ → ℕ
 kBegin n = total (take n kCounts)
 
@@ -65,6 +62,11 @@ countAt N = tableStart N K + 2 * entries N K
 abbrev pub pulseStart : ℕ → ℕ
 pulseStart N = countAt N + 1
 
+-- the length field of a file with that many pulses, which is the length of what follows it: version, tables, pulse count and
+-- pulses; 496 + count at 64 pitches
+abbrev pub lengthWith : ℕ → ℕ → ℕ
+lengthWith N count = 1 + 2 * (entries N Energy + entries N Pitch + entries N K) + 1 + count
+
 -- the length field
 abbrev pub lengthField : List ℕ → ℕ
 lengthField file = wordAt file 0
@@ -78,7 +80,7 @@ module _ (N : ℕ) (file : List ℕ) where
   abbrev pub entryAt : Table → ℕ → ℕ
   entryAt t i = wordAt file (tableStart N t + 2 * i)
 
-  -- the energy at index i
+  -- the energy at index i, of 0 to 14: energy 15 is the stop, and no table value
   abbrev pub energyAt : ℕ → ℤ
   energyAt i = pos (entryAt Energy i)
 

@@ -6,13 +6,13 @@ ghost use Rattle.voice.specs.Layout.{pitches, countAt};
 ghost use Rattle.voice.specs.Check.{version, sizeFault, lengthFault, versionFault, unsignedValid, kValid, entryValid, tableValid, valueFault, pulseFault, voiceFault};
 use crate::layout::PITCHES;
 use crate::layout::Table;
-use crate::layout::byte_at;
 use crate::layout::count_at;
 use crate::layout::entries;
 use crate::layout::entry_at;
 use crate::layout::length_with;
 use crate::layout::signed_word;
 use crate::layout::word_at;
+use base::bytes::byte_at;
 use base::refusal::TAKEN;
 use base::refusal::VOICE_LENGTH;
 use base::refusal::VOICE_PULSE;
@@ -21,10 +21,17 @@ use base::refusal::VOICE_VALUE;
 use base::refusal::VOICE_VERSION;
 
 // The version of the TMS5220 and TMS5200.
-pub const VERSION: u8 = 1;
+const VERSION: u8 = 1;
 
 // The most pulses.
-pub const PULSE_LIMIT: u8 = 64;
+const PULSE_LIMIT: u8 = 64;
+
+// The most that an energy or a pitch can be.
+const VALUE_MAX: u16 = 1023;
+
+const K_MIN: i32 = -512;
+
+const K_MAX: i32 = 511;
 
 // Whether the file has too few bytes or too many.
 fn size_fault(file: &[u8], pitches: u8) -> bool
@@ -41,7 +48,7 @@ fn length_fault(file: &[u8]) -> bool
     word_at(file, 0) as usize + 2 != file.len()
 }
 
-// Whether the version byte is another.
+// Whether the version byte is not `version`.
 fn version_fault(file: &[u8], version: u8) -> bool
     ensures { λ r. ⌜ r ≡ versionFault version (now (file .entry)) ⌝ }
 {
@@ -55,7 +62,7 @@ fn unsigned_valid(least: u16, index: u16, word: u16) -> bool
     if index == 0 {
         word == 0
     } else {
-        (least <= word) & (word <= 1023)
+        (least <= word) & (word <= VALUE_MAX)
     }
 }
 
@@ -64,7 +71,7 @@ fn k_valid(word: u16) -> bool
     ensures { λ r. ⌜ r ≡ kValid word ⌝ }
 {
     let k = signed_word(word);
-    !(k < -512) & !(511 < k)
+    !(k < K_MIN) & !(K_MAX < k)
 }
 
 // Whether an entry of a table is in range.
@@ -119,7 +126,7 @@ fn pulse_fault(file: &[u8], pitches: u8) -> bool
 }
 
 // The first fault of a file with that many pitches and that version; 0 without one.
-pub fn voice_fault(file: &[u8], pitches: u8, version: u8) -> u8
+fn voice_fault(file: &[u8], pitches: u8, version: u8) -> u8
     ensures { λ r. ⌜ r ≡ voiceFault pitches version (now (file .entry)) ⌝ }
 {
     if size_fault(file, pitches) {

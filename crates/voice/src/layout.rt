@@ -1,14 +1,14 @@
 // The layout of a voice file, with the number of pitches as a parameter.
 ghost use mathlib.Core.Path.{_≡_};
 ghost use Prim.Native.Nat.{_<_};
-ghost use Rattle.voice.specs.Layout.{byteAt, wordAt, twosComplement, signedByte, signedWord, kBegin, entries, tableStart, entryAt, countAt};
-ghost use Rattle.voice.specs.Check.{lengthWith};
+ghost use Rattle.voice.specs.Layout.{wordAt, twosComplement, signedByte, signedWord, kBegin, entries, tableStart, entryAt, countAt, lengthWith};
+use base::bytes::byte_at;
 
 // The pitches of the TMS5220 and TMS5200.
-pub const PITCHES: u8 = 64;
+pub(crate) const PITCHES: u8 = 64;
 
 // The tables of words, in the file's order.
-pub enum Table {
+pub(crate) enum Table {
     Energy,
     Pitch,
     K,
@@ -27,15 +27,8 @@ const ENERGY_START: u32 = 3;
 
 const PITCH_START: u32 = 33;
 
-// Byte i of a file; 0 past its end.
-pub fn byte_at(file: &[u8], i: usize) -> u8
-    ensures { λ r. ⌜ r ≡ byteAt (now (file .entry)) i ⌝ }
-{
-    if i < file.len() { file[i] } else { 0 }
-}
-
 // The big-endian word from byte `at` on.
-pub fn word_at(file: &[u8], at: u32) -> u16
+pub(crate) fn word_at(file: &[u8], at: u32) -> u16
     ensures { λ r. ⌜ r ≡ wordAt (now (file .entry)) at ⌝ }
 {
     let i = at as usize;
@@ -51,21 +44,21 @@ fn twos_complement(sign: u16, n: u16) -> i32
 }
 
 // A byte in two's complement.
-pub fn signed_byte(b: u8) -> i32
+pub(crate) fn signed_byte(b: u8) -> i32
     ensures { λ r. ⌜ r ≡ signedByte b ⌝ }
 {
     twos_complement(128, b as u16)
 }
 
 // A word in two's complement.
-pub fn signed_word(w: u16) -> i32
+pub(crate) fn signed_word(w: u16) -> i32
     ensures { λ r. ⌜ r ≡ signedWord w ⌝ }
 {
     twos_complement(32768, w)
 }
 
-// Where K number `number` begins among the K values, K1 being number 0.
-pub fn k_begin(number: usize) -> u16
+// Where K number `number` begins among the K values, K1 being number 0; past K10 where they end.
+pub(crate) fn k_begin(number: usize) -> u16
     ensures { λ r. ⌜ r ≡ kBegin number ⌝ }
 {
     if number < 10 {
@@ -76,7 +69,7 @@ pub fn k_begin(number: usize) -> u16
 }
 
 // How many entries a table has.
-pub fn entries(pitches: u8, table: Table) -> u16
+pub(crate) fn entries(pitches: u8, table: Table) -> u16
     ensures { λ r. ⌜ r ≡ entries pitches table ⌝ }
 {
     match table {
@@ -98,22 +91,22 @@ fn table_start(pitches: u8, table: Table) -> u32
 }
 
 // Entry `index` of a table.
-pub fn entry_at(file: &[u8], pitches: u8, table: Table, index: u16) -> u16
+pub(crate) fn entry_at(file: &[u8], pitches: u8, table: Table, index: u16) -> u16
     ensures { λ r. ⌜ r ≡ entryAt pitches (now (file .entry)) table index ⌝ }
 {
     word_at(file, table_start(pitches, table) + 2 * index as u32)
 }
 
 // Where the pulse count stands. The pulses follow it.
-pub fn count_at(pitches: u8) -> usize
+pub(crate) fn count_at(pitches: u8) -> usize
     ensures { λ r. ⌜ r ≡ countAt pitches ⌝ }
 {
     PITCH_START as usize + 2 * pitches as usize + 2 * K_VALUES as usize
 }
 
-// The length field of a file with that many pitches and pulses.
-pub fn length_with(pitches: u8, count: u8) -> u16
+// The length field of a file with that many pitches and pulses: the bytes of version, tables, pulse count and pulses.
+pub(crate) fn length_with(pitches: u8, count: u8) -> u16
     ensures { λ r. ⌜ r ≡ lengthWith pitches count ⌝ }
 {
-    368 + 2 * pitches as u16 + count as u16
+    1 + 2 * (ENERGIES + pitches as u16 + K_VALUES) + 1 + count as u16
 }

@@ -1,4 +1,4 @@
 // Voice files: their layout, their check and their look-ups.
 pub mod checks;
-pub mod layout;
+mod layout;
 pub mod lookup;
