@@ -1,7 +1,7 @@
--- A sample of the pieces of a sound, and what it, an interpolation and a frame's targets keep in range.
+-- A sample of the pieces of a sound; and the ranges that a sample and an interpolation keep.
 -- Assumes nothing.
-use mathlib.Core.Path.{_≡_, refl, ap}
-use mathlib.Core.Bool.{Bool, true, false, cond}
+use mathlib.Core.Path.{_≡_, ap}
+use mathlib.Core.Bool.{Bool}
 use mathlib.Core.List.{List}
 use Prim.Native.Nat.{ℕ, _+_, _%_, _≤_}
 use native.Mathlib.Omega.{arith}
@@ -10,6 +10,7 @@ use lib.Dec.{eqb, leb}
 use lib.IntN.{ℤ, pos, negsuc}
 use Rattle.base.specs.Range.{Between}
 use Rattle.base.specs.declared.units.Intervals.{Intervals}
+use Rattle.base.proofs.Booleans.{by-test}
 use Rattle.base.proofs.Range.{product, quotient}
 use Rattle.voice.proofs.Valid.{pulse-range}
 use Rattle.filter.specs.Filter.{forward, newMemory}
@@ -27,23 +28,18 @@ use Rattle.sound.proofs.Validity.{SoundRanges}
 
 -- ---- the ranges of a sample's parts
 
-either : {n p : ℕ} {a b : ℤ} (t : Bool) → Between n p a → Between n p b → Between n p (cond t a b)
-either true h k = h
-either false h k = k
-
 pub excitation-range : (N : ℕ) (file : List ℕ) (voiced : Bool) (place noise : ℕ) → Between 128 127 (excitationOf N file voiced place noise)
-excitation-range N file voiced place noise = either voiced (pulse-range N file place) (either (eqb (noise % 2) 1) (omega arith) (omega arith))
+excitation-range N file voiced place noise =
+    by-test (Between 128 127) voiced (λ v. pulse-range N file place)
+    (λ u. by-test (Between 128 127) (eqb (noise % 2) 1) (λ odd. omega arith) (λ even. omega arith))
 
 pub input-range : {energy excitation : ℤ} → Between 0 1023 energy → Between 128 127 excitation → Between 130944 130944 (inputOf energy excitation)
 input-range h k = quotient (product h k) 64
 
 -- the place stays below a pitch of at most 1023
 place-range : (place : ℕ) {pitch : ℤ} → Between 0 1023 pitch → place ≤ 1022 → nextPulse place pitch ≤ 1022
-place-range place {pitch = pos q} h l = go (leb q (place + 1)) refl
-  where
-    go : (t : Bool) → leb q (place + 1) ≡ t → cond t 0 (place + 1) ≤ 1022
-    go true e = omega arith
-    go false e = omega (arith, leb-false q (place + 1) e)
+place-range place {pitch = pos q} h l =
+    by-test (λ (n : ℕ). n ≤ 1022) (leb q (place + 1)) (λ e. omega arith) (λ e. omega (arith, leb-false q (place + 1) e))
 place-range place {pitch = negsuc q} h l = omega arith
 
 -- ---- a sample, of its pieces
