@@ -32,19 +32,19 @@ pulseValid s = leb (s .pulse) 1022
 unfoldable pub soundValid : Sound → Bool
 soundValid s = (paramsValid (s .current) && paramsValid (s .target)) && (memoryValid s && (noiseValid s && pulseValid s))
 
--- the sound at rest: currents, targets, filter memory and pulse place zero; noise register 8191
+-- currents and targets at rest: energy, pitch and K zero
 abbrev pub restParams : Params
 restParams = record { energy = pos 0; pitch = pos 0; k = replicate 10 (pos 0) }
 
--- the sound with these, an empty filter and noise 8191
+-- the sound at rest: currents, targets, filter memory and pulse place zero; noise register 8191
 abbrev pub restSound : Sound
 restSound = record { current = restParams; target = restParams; memory = replicate 10 (pos 0); noise = 8191; pulse = 0 }
 
--- energy, pitch and K zero
+-- whether energy, pitch and each K are zero
 abbrev pub zeroParams : Params → Bool
 zeroParams v = paramsInside (pos 0) (pos 0) (pos 0) v
 
--- the test of the sound at rest: true exactly when the sound equals `restSound` (Laws)
+-- whether the sound is at rest: true exactly when it equals `restSound` (`RestExactly` in Laws)
 unfoldable pub atRest : Sound → Bool
 atRest s =
     (zeroParams (s .current) && zeroParams (s .target))

@@ -1,4 +1,4 @@
-// Interpolation: at an interval's first sample the parameters move towards their targets.
+// Interpolation: at an interval's first sample the currents move towards the targets.
 ghost use mathlib.Core.Path.{_≡_};
 ghost use mathlib.Core.Bool.{true};
 ghost use mathlib.Core.List.{zipWith};
@@ -46,7 +46,7 @@ fn toward_each(current: [i32; 10], target: [i32; 10], shift: u32) -> [i32; 10]
 }
 
 impl Params {
-    // The parameters moved towards a target.
+    // Energy, pitch and each K moved towards the target's.
     fn toward(self, target: Params, shift: u32) -> Params
         requires { ⌜ (paramsValid self ≡ true) × (paramsValid target ≡ true) × (shift < 4) ⌝ }
         ensures { λ r. ⌜ r ≡ towardParams (2 ^ shift) self target ⌝ }

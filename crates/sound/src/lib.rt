@@ -1,4 +1,4 @@
-// The sound of document 01: its parameters and their targets and interpolation, noise, pulses, and one sample after another
+// The sound of document 01: its state, the targets of a frame, interpolation, noise, pulses, and one sample after another
 // through the lattice filter.
 pub mod interpolation;
 mod noise;

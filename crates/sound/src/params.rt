@@ -1,4 +1,4 @@
-// The parameters of the sound, and their ranges.
+// The parameters of the sound, which are its currents or its targets, and their ranges.
 ghost use mathlib.Core.Path.{_≡_};
 ghost use Rattle.sound.specs.State.{paramsInside, paramsValid, zeroParams};
 use filter::range::all_inside;
@@ -27,13 +27,13 @@ impl Params {
         is_inside(self.energy, 0, top) & is_inside(self.pitch, 0, top) & all_inside(k, low, high)
     }
 
-    pub fn valid(self) -> bool
+    pub(crate) fn valid(self) -> bool
         ensures { λ r. ⌜ r ≡ paramsValid self ⌝ }
     {
         self.is_inside(Self::MAX, Self::K_MIN, Self::K_MAX)
     }
 
-    pub fn is_zero(self) -> bool
+    pub(crate) fn is_zero(self) -> bool
         ensures { λ r. ⌜ r ≡ zeroParams self ⌝ }
     {
         self.is_inside(0, 0, 0)

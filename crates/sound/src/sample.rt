@@ -51,7 +51,7 @@ fn filtered(k: &[i32; 10], memory: &mut [i32; 10], energy: i32, excitation: i32)
 
 impl Sound {
     // Whether the target pitch is not 0.
-    pub fn is_voiced(self) -> bool
+    fn is_voiced(self) -> bool
         ensures { λ r. ⌜ r ≡ isVoiced self ⌝ }
     {
         let target = self.target;

@@ -1,4 +1,4 @@
-// The sound as a state: what moves with each sample, its ranges, and the sound at rest.
+// The state of the sound, its ranges, and the sound at rest.
 ghost use mathlib.Core.Path.{_≡_};
 ghost use Rattle.sound.specs.State.{restSound, atRest, soundValid};
 use crate::params::Params;
@@ -6,7 +6,7 @@ use filter::filter::MEMORY_MAX;
 use filter::filter::MEMORY_MIN;
 use filter::range::all_inside;
 
-// The parameters in force and those aimed at, the filter's memory, the noise register and the pulse place.
+// The currents and the targets, the filter's memory, the noise register and the pulse place.
 pub struct Sound {
     pub current: Params,
     pub target: Params,
