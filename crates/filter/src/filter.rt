@@ -2,10 +2,10 @@
 ghost use mathlib.Core.Path.{_≡_};
 ghost use Prim.Native.Nat.{_≤_, _<_};
 ghost use Rattle.base.specs.Range.{Between};
-ghost use Rattle.filter.specs.Filter.{scaled, forwardOf, memoryOf, forward, newMemory};
+ghost use Rattle.filter.specs.Filter.{held, scaled, forwardOf, memoryOf, forward, newMemory};
 ghost use Rattle.filter.specs.Ranges.{TenBetween};
 ghost use Rattle.filter.specs.Stages.{stageForward, stageMemory, lowestForward, lowestMemory};
-use crate::range::clamp;
+use crate::range::is_inside;
 
 const STAGES: usize = 10;
 
@@ -13,6 +13,25 @@ const STAGES: usize = 10;
 pub const MEMORY_MIN: i32 = -8192;
 
 pub const MEMORY_MAX: i32 = 8191;
+
+// Its ends, the lower first.
+const ENDS: [i32; 2] = [MEMORY_MIN, MEMORY_MAX];
+
+// More than any sum that is held.
+const SUM_LIMIT: i32 = 8388608;
+
+// A value held to the range. Few values lie beyond an end, and the end is looked up so that the compiled code branches on that: the
+// stage below then goes on with the value while it is compared, where a choice by computing would make it wait.
+fn hold(z: i32) -> i32
+    requires { ⌜ Between 8388608 8388607 z ⌝ }
+    ensures { λ r. ⌜ r ≡ held z ⌝ }
+{
+    if is_inside(z, MEMORY_MIN, MEMORY_MAX) {
+        return z;
+    }
+    let end = (z + SUM_LIMIT) as usize / SUM_LIMIT as usize;
+    ENDS[end]
+}
 
 // The product of a coefficient and a value, divided by 512 and rounded down.
 fn scale(k: i32, x: i32) -> i32
@@ -27,7 +46,7 @@ fn forward_of(k: i32, m: i32, above: i32) -> i32
     requires { ⌜ (Between 512 511 k) × (Between 8192 8191 m) × (Between 130944 130944 above) ⌝ }
     ensures { λ r. ⌜ r ≡ forwardOf k m above ⌝ }
 {
-    clamp(above - scale(k, m), MEMORY_MIN, MEMORY_MAX)
+    hold(above - scale(k, m))
 }
 
 // The new memory above a stage, from the stage's old memory and forward value.
@@ -35,7 +54,7 @@ fn memory_of(k: i32, m: i32, f: i32) -> i32
     requires { ⌜ (Between 512 511 k) × (Between 8192 8191 m) × (Between 8192 8191 f) ⌝ }
     ensures { λ r. ⌜ r ≡ memoryOf k m f ⌝ }
 {
-    clamp(m + scale(k, f), MEMORY_MIN, MEMORY_MAX)
+    hold(m + scale(k, f))
 }
 
 // The stage at index i. What it renews is the memory above its own, which the stage above has used already; the last

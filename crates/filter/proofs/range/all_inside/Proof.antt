@@ -15,6 +15,7 @@ use mir.Facts.{toZ-ofZ}
 use mir.Syntax.{w32}
 use mir.Val.{toZ, SFits}
 use Rattle.base.specs.Range.{allInside}
+use Rattle.base.proofs.Booleans.{and-true}
 use Rattle.filter.proofs.Elements.{each-fits}
 use Rattle.filter.proofs.range.all_inside.Statement.{statement}
 use Rattle.filter.proofs.range.all_inside.Tie as tie
@@ -29,10 +30,6 @@ abbrev μ-loop : tie.MeasureT-loop
 and-assoc : (a b c : Bool) → (a && (b && c)) ≡ ((a && b) && c)
 and-assoc true b c = refl
 and-assoc false b c = refl
-
-and-true : (a : Bool) → (a && true) ≡ a
-and-true true = refl
-and-true false = refl
 
 loop-again : tie.Need-loop-again Inv-loop μ-loop
 loop-again c =
