@@ -41,6 +41,10 @@ static int begin(struct chip *c, struct bytes image, size_t address)
         bytes[i] = 0x40 | (address >> 4 * i & 15);
     bytes[5] = 0x50;
     power_up(c);
+    if (!image_valid(image))
+        return IMAGE;
+    if (address >= image.length)
+        return BEYOND;
     return give(c, image, bytes, 6, &taken);
 }
 
@@ -60,13 +64,15 @@ uint8_t c_speak_by_steps(const uint8_t *image, size_t image_length, const uint8_
     struct chip c;
     struct step step;
     int refusal = begin(&c, rom, address);
+    if (!refusal)
+        refusal = chip_run(&c, rom, file, out, 0);
     if (refusal)
         return refusal;
     for (size_t i = 0; i < out_length; i++) {
-        refusal = chip_step(&c, rom, file, &step);
+        chip_step(&c, rom, file, &step);
         out[i] = step.sample;
     }
-    return refusal;
+    return TAKEN;
 }
 
 uint8_t c_speak_external(const uint8_t *image, size_t image_length, const uint8_t *voice, size_t voice_length,
@@ -77,6 +83,8 @@ uint8_t c_speak_external(const uint8_t *image, size_t image_length, const uint8_
     size_t next = 0, taken;
     power_up(&c);
     int refusal = chip_write(&c, rom, 0x60);
+    if (!refusal)
+        refusal = voice_check(file);
     if (refusal)
         return refusal;
     for (size_t i = 0; out_length - i >= 100; i += 100) {

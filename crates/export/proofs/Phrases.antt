@@ -1,24 +1,48 @@
--- What speaking a phrase answers, by whether a byte that begins it is refused.
+-- What speaking a phrase answers, by whether its address, a byte that begins it or the run is refused.
 -- Assumes nothing.
-use mathlib.Core.Path.{_≡_, refl, ap, _∙_}
+use mathlib.Core.Path.{_≡_, refl, sym, ap, _∙_}
+use mathlib.Core.Bool.{Bool, true, false}
 use mathlib.Core.List.{List}
 use Prim.Native.Nat.{ℕ}
+use borrow.Author.Tests.{eqb-true}
+use lib.Dec.{eqb, leb}
 use lib.IntN.{ℤ}
 use lib.ListN.{length}
-use Rattle.base.specs.Steps.{stateAfter, outputs}
 use Rattle.base.proofs.Faults.{answered, refused-with}
-use Rattle.chip.specs.Step.{stepOf}
-use Rattle.chip.specs.Run.{runOf, bufferOf}
+use Rattle.rom.specs.Bits.{imageFault}
+use Rattle.chip.specs.State.{powerUp}
+use Rattle.chip.specs.Step.{stepFault, stepOf}
+use Rattle.chip.specs.Run.{sampleStep, runOf, bufferOf}
 use Rattle.chip.specs.declared.state.Chip.{Chip}
 use Rattle.chip.specs.declared.step.Stepped.{Stepped}
 use Rattle.chip.specs.declared.run.Ran.{Ran}
 use Rattle.export.specs.Types.{Given}
-use Rattle.export.specs.Speak.{begun, numberedStep, speakFault, spokenInto, stepsFault, steppedInto}
+use Rattle.export.specs.Giving.{given}
+use Rattle.export.specs.Speak.{speakBytes, begun, speakFault, spokenInto}
 
--- the step of a chip, with its number
-pub numbered-step-is : (image voice : List ℕ) (c : Chip) (n : ℕ) {r : Stepped} {x : ℤ} → r ≡ stepOf image voice c → x ≡ r .sample
-    → ((r .chip, r .refusal), x) ≡ numberedStep image voice (c, n)
-numbered-step-is image voice c n r x = rw x (ap (λ (r : Stepped). ((r .chip, r .refusal), r .sample)) r)
+-- a chip that begins to speak, by the number of the address
+module _ (image : List ℕ) (a : ℕ) {n : ℕ} (e : n ≡ imageFault image (leb (length image) a)) where
+  pub begun-refused : {c : Chip} → c ≡ powerUp → (n ≡ 0 → ⊥) → record { chip = c; refusal = n; next = 0 } ≡ begun image a
+  unfolding begun
+  begun-refused c h = refused-with e (λ (n : ℕ). record { chip = powerUp; refusal = n; next = 0 }) _ h (rw c)
+
+  pub begun-given : {g : Given} → n ≡ 0 → g ≡ given image powerUp 0 (speakBytes a) → g ≡ begun image a
+  unfolding begun
+  begun-given h g = answered e (λ (n : ℕ). record { chip = powerUp; refusal = n; next = 0 }) _ h g
+
+-- the step of a run, from a call of `step`
+pub step-is : (image voice : List ℕ) (c : Chip) {r : Stepped} {x : ℤ} → r ≡ stepOf image voice c → x ≡ r .sample
+    → (r .chip, x) ≡ sampleStep image voice c
+step-is image voice c r x = rw x (ap (λ (r : Stepped). (r .chip, r .sample)) r)
+
+-- a run of any length answers the number that a step would
+pub run-number : (image voice : List ℕ) (c : Chip) (n : ℕ) → runOf image voice c n .refusal ≡ stepFault image voice c
+unfolding runOf
+run-number image voice c n = by-fault (eqb (stepFault image voice c) 0) refl
+  where
+    by-fault : (t : Bool) → eqb (stepFault image voice c) 0 ≡ t → runOf image voice c n .refusal ≡ stepFault image voice c
+    by-fault true t = rw t (sym (eqb-true _ _ t))
+    by-fault false t = rw t
 
 module _ (image voice : List ℕ) (a : ℕ) (out : List ℤ) {g : Given} (e : g ≡ begun image a) where
   number : g .refusal ≡ begun image a .refusal
@@ -29,29 +53,12 @@ module _ (image voice : List ℕ) (a : ℕ) (out : List ℤ) {g : Given} (e : g 
   unfolding speakFault spokenInto
   speak-refused h = (refused-with number (λ (n : ℕ). n) _ h refl, refused-with number (λ (n : ℕ). out) _ h refl)
 
-  pub speak-ran : {r : Ran} {new : List ℤ} → g .refusal ≡ 0 → r ≡ runOf image voice (g .chip) (length out)
-      → new ≡ bufferOf image voice (g .chip) out
+  pub speak-ran : {r : Ran} {new : List ℤ} → g .refusal ≡ 0
+      → (r ≡ runOf image voice (g .chip) (length out)) × (new ≡ bufferOf image voice (g .chip) out)
       → (r .refusal ≡ speakFault image voice a (length out)) × (new ≡ spokenInto image voice a out)
   unfolding speakFault spokenInto
-  speak-ran h r new = (
+  speak-ran h r = (
     answered number (λ (n : ℕ). n) _ h
-        (ap (λ (r : Ran). r .refusal) r ∙ ap (λ (g : Given). runOf image voice (g .chip) (length out) .refusal) e),
-    answered number (λ (n : ℕ). out) _ h (new ∙ ap (λ (g : Given). bufferOf image voice (g .chip) out) e),
-  )
-
-  pub steps-refused : (g .refusal ≡ 0 → ⊥)
-      → (g .refusal ≡ stepsFault image voice a (length out)) × (out ≡ steppedInto image voice a out)
-  unfolding stepsFault steppedInto
-  steps-refused h = (refused-with number (λ (n : ℕ). n) _ h refl, refused-with number (λ (n : ℕ). out) _ h refl)
-
-  pub steps-taken : {n : ℕ} {new : List ℤ} → g .refusal ≡ 0
-      → n ≡ stateAfter (numberedStep image voice) (length out) (g .chip, 0) .1
-      → new ≡ outputs (numberedStep image voice) (length out) (g .chip, 0)
-      → (n ≡ stepsFault image voice a (length out)) × (new ≡ steppedInto image voice a out)
-  unfolding stepsFault steppedInto
-  steps-taken h n new = (
-    answered number (λ (n : ℕ). n) _ h
-        (n ∙ ap (λ (g : Given). stateAfter (numberedStep image voice) (length out) (g .chip, 0) .1) e),
-    answered number (λ (n : ℕ). out) _ h
-        (new ∙ ap (λ (g : Given). outputs (numberedStep image voice) (length out) (g .chip, 0)) e),
+        (ap (λ (r : Ran). r .refusal) (r .0) ∙ ap (λ (g : Given). runOf image voice (g .chip) (length out) .refusal) e),
+    answered number (λ (n : ℕ). out) _ h (r .1 ∙ ap (λ (g : Given). bufferOf image voice (g .chip) out) e),
   )

@@ -14,6 +14,8 @@ use lib.Seq.{take-at, drop-drop, length-take-le}
 use Rattle.base.specs.Steps.{outputs}
 use Rattle.base.proofs.Faults.{answered, refused-with}
 use Rattle.base.proofs.Steps.{outputs-length}
+use Rattle.voice.specs.Layout.{pitches}
+use Rattle.voice.specs.Check.{voiceFault, version}
 use Rattle.chip.specs.Step.{stepFault}
 use Rattle.chip.specs.Run.{sampleStep, runOf, bufferOf}
 use Rattle.chip.specs.declared.run.Ran.{Ran}
@@ -108,14 +110,24 @@ module _ (image voice bytes : List ℕ) where
     unfolding externalFault externalInto
     external-refused h = (refused-with number (λ (n : ℕ). n) _ h refl, refused-with number (λ (n : ℕ). out) _ h refl)
 
-    pub external-fed : {n : ℕ} {new : List ℤ} → w .refusal ≡ 0
-        → n ≡ fedFault image voice bytes (turns (length out)) (record { chip = w .chip; refusal = w .refusal; next = 0 })
-        → new ≡ fedInto image voice bytes (turns (length out)) (record { chip = w .chip; refusal = w .refusal; next = 0 }) out
-        → (n ≡ externalFault image voice bytes (length out)) × (new ≡ externalInto image voice bytes out)
-    unfolding externalFault externalInto
-    external-fed h n new =
-        let from : record { chip = w .chip; refusal = w .refusal; next = 0 } ≡ started image voice bytes =
-        ap (λ (r : ℕ). record { chip = w .chip; refusal = r; next = 0 }) h ∙ ap (λ (w : Written). record { chip = w .chip; refusal = 0; next = 0 }) e in (
-          answered number (λ (n : ℕ). n) _ h (n ∙ ap (fedFault image voice bytes (turns (length out))) from),
-          answered number (λ (n : ℕ). out) _ h (new ∙ ap (λ (s : Fed). fedInto image voice bytes (turns (length out)) s out) from),
-        )
+    module _ {k : ℕ} (v : k ≡ voiceFault pitches version voice) (h : w .refusal ≡ 0) where
+      pub voice-refused : (k ≡ 0 → ⊥) → (k ≡ externalFault image voice bytes (length out)) × (out ≡ externalInto image voice bytes out)
+      unfolding externalFault externalInto
+      voice-refused r = (
+        answered number (λ (n : ℕ). n) _ h (refused-with v (λ (n : ℕ). n) _ r refl),
+        answered number (λ (n : ℕ). out) _ h (refused-with v (λ (n : ℕ). out) _ r refl),
+      )
+
+      pub external-fed : {n : ℕ} {new : List ℤ} → k ≡ 0
+          → n ≡ fedFault image voice bytes (turns (length out)) (record { chip = w .chip; refusal = w .refusal; next = 0 })
+          → new ≡ fedInto image voice bytes (turns (length out)) (record { chip = w .chip; refusal = w .refusal; next = 0 }) out
+          → (n ≡ externalFault image voice bytes (length out)) × (new ≡ externalInto image voice bytes out)
+      unfolding externalFault externalInto
+      external-fed r n new =
+          let from : record { chip = w .chip; refusal = w .refusal; next = 0 } ≡ started image voice bytes =
+          ap (λ (r : ℕ). record { chip = w .chip; refusal = r; next = 0 }) h ∙ ap (λ (w : Written). record { chip = w .chip; refusal = 0; next = 0 }) e in (
+            answered number (λ (n : ℕ). n) _ h
+                (answered v (λ (n : ℕ). n) _ r (n ∙ ap (fedFault image voice bytes (turns (length out))) from)),
+            answered number (λ (n : ℕ). out) _ h
+                (answered v (λ (n : ℕ). out) _ r (new ∙ ap (λ (s : Fed). fedInto image voice bytes (turns (length out)) s out) from)),
+          )

@@ -4,6 +4,8 @@ use Prim.Native.Nat.{ℕ, zero, suc, _/_}
 use lib.IntN.{ℤ}
 use lib.ListN.{length, take, drop}
 use Rattle.base.specs.Refusals.{TAKEN, unlessFault}
+use Rattle.voice.specs.Layout.{pitches}
+use Rattle.voice.specs.Check.{voiceFault, version}
 use Rattle.chip.specs.State.{powerUp}
 use Rattle.chip.specs.Write.{writeOf}
 use Rattle.chip.specs.Run.{runOf, bufferOf}
@@ -52,10 +54,13 @@ module _ (image voice bytes : List ℕ) where
   abbrev pub started : Fed
   started = record { chip = external .chip; refusal = TAKEN; next = 0 }
 
-  -- the number of the refused Speak External, or of the last run
+  -- the number of the refused Speak External, of the voice file, or of the last run
   unfoldable pub externalFault : ℕ → ℕ
-  externalFault n = unlessFault (external .refusal) (λ r. r) (fedFault (turns n) started)
+  externalFault n =
+      unlessFault (external .refusal) (λ r. r) (unlessFault (voiceFault pitches version voice) (λ r. r) (fedFault (turns n) started))
 
   -- what the turns leave in the buffer
   unfoldable pub externalInto : List ℤ → List ℤ
-  externalInto out = unlessFault (external .refusal) (λ r. out) (fedInto (turns (length out)) started out)
+  externalInto out =
+      unlessFault (external .refusal) (λ r. out)
+      (unlessFault (voiceFault pitches version voice) (λ r. out) (fedInto (turns (length out)) started out))

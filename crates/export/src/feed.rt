@@ -5,6 +5,7 @@ ghost use Rattle.export.specs.Feed.{turned, turnOf, turns, fedFault, fed
 use crate::giving::give;
 use base::refusal::TAKEN;
 use chip::state::Chip;
+use voice::checks::voice_check;
 
 const SPEAK_EXTERNAL: u8 = 0x60;
 
@@ -51,7 +52,7 @@ fn feed(fed: Fed, image: &[u8], voice: &[u8], bytes: &[u8], out: &mut [i16]) -> 
 }
 
 // Power-up, Speak External, and turns of 100 samples: before each the FIFO takes what it has room for. The answer is the
-// number of the refused Speak External, or of the last run; elements behind the last whole turn are kept.
+// number of the refused Speak External, of the voice file, or of the last run; elements behind the last whole turn are kept.
 #[no_mangle]
 pub extern "C" fn tms_speak_external(
     image: &[u8],
@@ -66,6 +67,10 @@ pub extern "C" fn tms_speak_external(
     let refusal = written.refusal;
     if refusal != TAKEN {
         return refusal;
+    }
+    let number = voice_check(voice);
+    if number != TAKEN {
+        return number;
     }
     let chip = written.chip;
     let fed = Fed {

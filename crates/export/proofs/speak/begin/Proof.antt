@@ -1,12 +1,18 @@
 -- `export::speak::begin` meets its contract. Assumes nothing.
 use borrow.Author.Needs.{needs}
-use Rattle.export.specs.Speak.{begun}
+use denote.Ref.{now}
+use Rattle.export.proofs.Phrases.{begun-refused, begun-given}
 use Rattle.export.proofs.speak.begin.Statement.{statement}
 use Rattle.export.proofs.speak.begin.Tie as tie
 
 returns : tie.Need-returns
-unfolding begun
-returns c = rw (← c .before .before .power-up .ensures, ← c .before .before .before .speak-bytes .ensures) (c .give .ensures)
+returns c = begun-refused _ _ (c .before .image-fault .ensures) (c .before .before .power-up .ensures) (c .if1 .taken)
+
+returns-2 : tie.Need-returns-2
+returns-2 c =
+    let b = c .before .before .before in
+    begun-given _ _ (b .before .image-fault .ensures) (b .if1 .left)
+    (rw (← b .before .before .power-up .ensures, ← c .before .before .speak-bytes .ensures) (c .give .ensures))
 
 pub begin-spec : {M : Type 1} → statement M
 begin-spec =
@@ -14,6 +20,8 @@ begin-spec =
     (tie.spec
     (λ c κs. search needs)
     (λ c κs. search needs)
+    returns
+    (λ c κs. search needs)
     (λ c. search needs)
     (λ c κs. search needs)
-    returns)
+    returns-2)

@@ -1,36 +1,31 @@
 -- `export::speak::step_each` meets its contract. The loop's invariant: the buffer holds the samples of i steps.
 -- Assumes nothing.
 use borrow.Author.Needs.{needs}
-use mathlib.Core.Path.{ap}
-use Prim.Native.Nat.{ℕ, _-_}
+use Prim.Native.Nat.{_-_}
 use native.Mathlib.Omega.{arith}
 use lib.ListN.{length}
 use denote.Ref.{now}
 use Rattle.base.proofs.Steps.{Filled, filled-none, filled-more, filled-all}
 use Rattle.chip.specs.declared.state.Chip.{Chip}
-use Rattle.export.specs.Speak.{numberedStep}
-use Rattle.export.proofs.Phrases.{numbered-step-is}
+use Rattle.chip.specs.Run.{sampleStep}
+use Rattle.export.proofs.Phrases.{step-is}
 use Rattle.export.proofs.speak.step_each.Statement.{statement}
 use Rattle.export.proofs.speak.step_each.Tie as tie
 
 abbrev Inv-loop : tie.InvT-loop
-Inv-loop image voice out₀ chip₀ refusal₀ i₀ out chip refusal i =
-    Filled (numberedStep image voice) (λ (s : Chip × ℕ). Unit {0}) (chip₀, 0) (length out₀) out (chip, refusal) i
+Inv-loop image voice out₀ chip₀ i₀ out chip i = Filled (sampleStep image voice) (λ (c : Chip). Unit {0}) chip₀ (length out₀) out chip i
 
 abbrev μ-loop : tie.MeasureT-loop
-μ-loop image voice out₀ chip₀ refusal₀ i₀ out chip refusal i = length out₀ - i
+μ-loop image voice out₀ chip₀ i₀ out chip i = length out₀ - i
 
 loop-again : tie.Need-loop-again Inv-loop μ-loop
 loop-again c =
     let a = c .before .before .before .before .before .before .before .args in
     let l = c .before .before .before .before .loop in
-    filled-more _ _ _ (l .inv) (omega arith)
-    (numbered-step-is (now (a .image)) (now (a .voice)) (l .chip) (l .refusal) (c .before .before .step .ensures) (search needs)) tt
+    filled-more _ _ _ (l .inv) (omega arith) (step-is (now (a .image)) (now (a .voice)) (l .chip) (c .before .before .step .ensures) (search needs)) tt
 
 returns : tie.Need-returns Inv-loop μ-loop
-returns c =
-    let f = filled-all _ _ _ (c .before .loop .inv) (omega arith) in
-    (ap (λ (s : Chip × ℕ). s .1) (f .0), f .1)
+returns c = filled-all _ _ _ (c .before .loop .inv) (omega arith) .1
 
 pub step-each-spec : {M : Type 1} → statement M
 step-each-spec =

@@ -17,5 +17,4 @@ tms-speak-spec =
     (λ c. search needs)
     (λ c.
     let a = c .before .before .before .before .before .before .before .before .args in
-    let r = c .before .run .ensures in
-    speak-ran (now (a .image)) (now (a .voice)) (a .address) (now (a .out)) (c .before .before .before .before .before .begin .ensures) (c .before .before .before .before .if1 .left) (r .0) (r .1)))
+    speak-ran (now (a .image)) (now (a .voice)) (a .address) (now (a .out)) (c .before .before .before .before .before .begin .ensures) (c .before .before .before .before .if1 .left) (c .before .run .ensures)))

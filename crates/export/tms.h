@@ -1,0 +1,29 @@
+/* The proved library for C to link. A slice is a pointer and a length. Each function takes any bytes and any number and answers a
+   refusal number of document 01, 0 where it is taken; a buffer of samples is then filled, and refused it is as it was. */
+#ifndef TMS_H
+#define TMS_H
+
+#include <stddef.h>
+#include <stdint.h>
+
+/* The walk from a byte address: the phrase's bits, its frames, and its duration; zeros where no phrase begins. */
+uint8_t tms_walk(const uint8_t *image, size_t image_length, size_t address, size_t *bits, uint32_t *frames, uint64_t *intervals,
+                 uint64_t *samples);
+
+/* The check of a voice file. */
+uint8_t tms_voice_check(const uint8_t *voice, size_t voice_length);
+
+/* Power-up, the five loads of an address, Speak, and a run into the buffer. */
+uint8_t tms_speak(const uint8_t *image, size_t image_length, const uint8_t *voice, size_t voice_length, size_t address,
+                  int16_t *out, size_t out_length);
+
+/* The same by a sample step for each element of the buffer. */
+uint8_t tms_speak_by_steps(const uint8_t *image, size_t image_length, const uint8_t *voice, size_t voice_length, size_t address,
+                           int16_t *out, size_t out_length);
+
+/* Power-up, Speak External, and turns of 100 samples, before each of which the FIFO takes as many bytes as it has room for.
+   Elements behind the last whole turn are as they were. */
+uint8_t tms_speak_external(const uint8_t *image, size_t image_length, const uint8_t *voice, size_t voice_length,
+                           const uint8_t *bytes, size_t bytes_length, int16_t *out, size_t out_length);
+
+#endif
