@@ -1,6 +1,7 @@
 /* bench compare          both versions on every workload and on many random inputs: how many, or the first that differs
    bench list             the workloads, a line each: number, units timed, few, many, unit, name
-   bench time I           nanoseconds for one unit of workload I, by C and by the proved code
+   bench time I           nanoseconds for one unit of workload I, by C and by the proved code, their ratio, and the ratios below
+                          which a twentieth of the turns lies, and all but a twentieth
    bench work I C|R N     N units of workload I by one version, to count its instructions
    bench space            bytes of C's chip, and bytes of stack that a run takes, by C and by the proved code */
 #include <stdio.h>
@@ -74,7 +75,7 @@ static void spoil_voice(struct input *in)
     }
 }
 
-/* Mostly valid: frames or any bytes, an address at times past the end, a voice file at times spoilt. */
+/* Mostly valid: frames or any bytes, an address at times past the end or past every image, a voice file at times spoilt. */
 static void make_input(struct input *in)
 {
     static struct image frames;
@@ -94,7 +95,7 @@ static void make_input(struct input *in)
     in->voice_length = make_voice(in->voice);
     if (between(0, 3) == 0)
         spoil_voice(in);
-    in->address = between(0, in->image_length + 1);
+    in->address = between(0, in->image_length + 1) + (between(0, 9) ? 0 : 262144);
     in->length = between(0, MOST);
 }
 
@@ -133,27 +134,47 @@ static int compare_random(int rounds)
     return 0;
 }
 
-/* ---- time: the processor's, the best of fifteen, the versions in turn */
+/* ---- time: the processor's. Both versions take a short turn, one right after the other, so that a change of the processor's
+   speed touches both; a ratio is of two such turns. */
+
+enum { TURNS = 201, TURNS_IN_ALL = 20 };
 
 static double seconds(const struct workload *w, const struct version *v)
 {
     struct timespec from, to;
     clock_gettime(CLOCK_PROCESS_CPUTIME_ID, &from);
-    w->work(v, w->timed);
+    w->work(v, w->timed / TURNS_IN_ALL);
     clock_gettime(CLOCK_PROCESS_CPUTIME_ID, &to);
     return (to.tv_sec - from.tv_sec) + 1e-9 * (to.tv_nsec - from.tv_nsec);
 }
 
+static int compare_numbers(const void *a, const void *b)
+{
+    double x = *(const double *)a, y = *(const double *)b;
+    return (x > y) - (x < y);
+}
+
+/* the number below which a part of the sorted turns lies */
+static double quantile(const double *sorted, double part)
+{
+    return sorted[(int)(part * (TURNS - 1))];
+}
+
 static void time_both(const struct workload *w)
 {
-    double by_c = 1e9, by_rattle = 1e9;
+    static double by_c[TURNS], by_rattle[TURNS], ratio[TURNS];
+    double unit = 1e9 / (w->timed / TURNS_IN_ALL);
     w->prepare();
-    for (int i = 0; i < 15; i++) {
-        double c = seconds(w, &plain), r = seconds(w, &proved);
-        by_c = c < by_c ? c : by_c;
-        by_rattle = r < by_rattle ? r : by_rattle;
+    for (int i = 0; i < TURNS; i++) {
+        by_c[i] = unit * seconds(w, &plain);
+        by_rattle[i] = unit * seconds(w, &proved);
+        ratio[i] = by_rattle[i] / by_c[i];
     }
-    printf("%.3f %.3f\n", 1e9 * by_c / w->timed, 1e9 * by_rattle / w->timed);
+    qsort(by_c, TURNS, sizeof *by_c, compare_numbers);
+    qsort(by_rattle, TURNS, sizeof *by_rattle, compare_numbers);
+    qsort(ratio, TURNS, sizeof *ratio, compare_numbers);
+    printf("%.3f %.3f %.3f %.3f %.3f\n", quantile(by_c, 0.5), quantile(by_rattle, 0.5), quantile(ratio, 0.5),
+           quantile(ratio, 0.05), quantile(ratio, 0.95));
 }
 
 /* ---- stack */
