@@ -35,6 +35,15 @@ size_t make_voice(uint8_t *voice)
     return 498 + count;
 }
 
+/* Loud and resonant, so that the filter's sums pass their range again and again: the most energy, K near its ends. */
+void make_loud(uint8_t *voice)
+{
+    for (int i = 1; i < 15; i++)
+        put_word(voice + 3 + 2 * i, 1023);
+    for (int i = 0; i < 168; i++)
+        put_word(voice + 161 + 2 * i, between(0, 1) ? between(-512, -440) : between(440, 511));
+}
+
 static void put(struct image *image, size_t *bit, int width, unsigned value)
 {
     for (int i = width - 1; i >= 0; i--, ++*bit)

@@ -13,6 +13,7 @@ struct image {
 
 int between(int low, int high);
 size_t make_voice(uint8_t *voice);
+void make_loud(uint8_t *voice);
 
 /* how often each kind comes, out of 100: silence, repeat, unvoiced; else voiced */
 struct mix {

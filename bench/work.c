@@ -38,6 +38,12 @@ static void prepare_voiced(void)
     prepare_speech(all_voiced);
 }
 
+static void prepare_loud(void)
+{
+    prepare_voiced();
+    make_loud(voice);
+}
+
 static void prepare_unvoiced(void)
 {
     prepare_speech(all_unvoiced);
@@ -140,6 +146,7 @@ const struct workload workloads[] = {
     {"run, voiced", "sample", 10000000, 20000, 120000, prepare_voiced, run},
     {"run, unvoiced", "sample", 10000000, 20000, 120000, prepare_unvoiced, run},
     {"run, mixed", "sample", 10000000, 20000, 120000, prepare_mixed, run},
+    {"run, voiced, loud", "sample", 10000000, 20000, 120000, prepare_loud, run},
     {"external speech, mixed", "sample", 2000000, 20000, 120000, prepare_mixed, external},
     {"step by step, mixed", "sample", 200000, 2000, 12000, prepare_mixed, step},
     {"walk, silence", "frame", 5000000, 100000, 500000, prepare_silence, walk},
