@@ -4,14 +4,14 @@ ghost use Prim.Native.Nat.{_≤_};
 ghost use lib.ListN.{length};
 ghost use Rattle.script.specs.Script.{limit};
 
-mod lines;
 mod play;
 
-use answers::text;
+use answers::lines::bad_line;
+use chip::state::Chip;
 use input::read_all;
 use libc::STDOUT_FILENO;
+use play::Parts;
 use play::play;
-use play::start;
 use script::LIMIT;
 use script::Record;
 use script::record_at;
@@ -43,29 +43,51 @@ fn relieve(out: &[u8], used: usize) -> Relieved
     }
 }
 
-// Plays a script and answers whether all answers are written.
+// Ends the answers to a bad script.
+fn give_up(out: &mut [u8], used: usize) -> bool
+    requires { ⌜ used ≤ length (now out) ⌝ }
+{
+    let end = bad_line(out, used);
+    io::write_all(STDOUT_FILENO, &out[..end])
+}
+
+// Plays a script within the limit and answers whether all answers are written.
 fn play_all(script: &[u8], out: &mut [u8]) -> bool
     requires { ⌜ length (now script) ≤ limit ⌝ }
 {
-    let mut player = start();
+    let mut parts = Parts {
+        image: 0,
+        image_end: 0,
+        voice: 0,
+        voice_end: 0,
+    };
+    let mut chip = Chip::power_up();
     let mut at = 0;
     let mut used = 0;
     while at < script.len() {
         let record = record_at(script, at);
         let Record::Whole(next) = record else {
-            let end = text(out, used, b"bad script\n");
-            return io::write_all(STDOUT_FILENO, &out[..end]);
+            return give_up(out, used);
         };
-        let played = play(script, at, player, out, used);
+        parts = parts.after(script, at);
+        let played = play(script, at, parts, chip, out, used);
         let relieved = relieve(out, played.used);
         if relieved.failed {
             return false;
         }
-        player = played.player;
+        chip = played.chip;
         used = relieved.used;
         at = next;
     }
     io::write_all(STDOUT_FILENO, &out[..used])
+}
+
+fn play_script(script: &[u8], out: &mut [u8]) -> bool {
+    if script.len() <= LIMIT {
+        play_all(script, out)
+    } else {
+        give_up(out, 0)
+    }
 }
 
 // Room for one byte more than a script may have, so that a longer one is told from one that fits.
@@ -83,14 +105,8 @@ fn main() {
         return;
     }
     let n = input.count;
-    if n > LIMIT {
-        if !io::write_all(STDOUT_FILENO, b"bad script\n") {
-            os::fail(b"standard output");
-        }
-        return;
-    }
     let mut out = io::large_buffer();
-    if !play_all(&space[..n], &mut out) {
+    if !play_script(&space[..n], &mut out) {
         os::fail(b"standard output");
     }
 }

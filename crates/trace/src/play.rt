@@ -2,21 +2,19 @@
 ghost use Prim.Native.Nat.{_≤_, _<_};
 ghost use lib.ListN.{length};
 ghost use Rattle.script.specs.Script.{limit};
-use crate::lines::chip_line;
-use crate::lines::report;
-use answers::frame;
-use answers::head;
-use answers::line;
-use answers::put;
-use answers::sample;
-use answers::samples;
-use answers::text;
+use answers::lines::UNTOUCHED;
+use answers::lines::chip_line;
+use answers::lines::frame_line;
+use answers::lines::image_line;
+use answers::lines::line;
+use answers::lines::read_line;
+use answers::lines::run_line;
+use answers::lines::step_line;
+use answers::lines::walk_line;
 use base::refusal::TAKEN;
 use chip::state::Chip;
 use fields::from_list::of_fields;
-use rom::phrases::phrase;
-use rom::phrases::walk;
-use rom::reader::frame_taken;
+use fields::to_list::fields;
 use script::byte_at;
 use script::long_at;
 use script::part;
@@ -24,152 +22,70 @@ use script::run_length;
 use script::word_at;
 use voice::checks::voice_check;
 
-// A part of the script: from a byte on up to another.
-pub struct Part {
-    pub from: usize,
-    pub end: usize,
+// The image and the voice file, as parts of the script: from a byte on up to another.
+pub struct Parts {
+    pub image: usize,
+    pub image_end: usize,
+    pub voice: usize,
+    pub voice_end: usize,
 }
 
-// The image and the voice file, as parts of the script, and the chip.
-pub struct Player {
-    pub image: Part,
-    pub voice: Part,
-    pub chip: Chip,
-}
-
-// What a record leaves: the player, and how much of the buffer is used.
-pub struct Played {
-    pub player: Player,
-    pub used: usize,
-}
-
-// No image, no voice file, the chip as powered up.
-pub fn start() -> Player {
-    let chip = Chip::power_up();
-    Player {
-        image: Part { from: 0, end: 0 },
-        voice: Part { from: 0, end: 0 },
-        chip,
-    }
-}
-
-impl Player {
+impl Parts {
     fn image(self, script: &[u8]) -> &[u8] {
-        part(script, self.image.from, self.image.end)
+        part(script, self.image, self.image_end)
     }
 
     fn voice(self, script: &[u8]) -> &[u8] {
-        part(script, self.voice.from, self.voice.end)
+        part(script, self.voice, self.voice_end)
     }
 
-    fn with_chip(self, chip: Chip) -> Player {
-        let mut player = self;
-        player.chip = chip;
-        player
-    }
-
-    // The answer of a call that hands back a chip: its line ends, and the chip's line follows.
-    fn answer(self, chip: Chip, out: &mut [u8], at: usize) -> Played
-        ensures { λ r. ⌜ r .used ≤ length (now (out .entry)) ⌝ }
+    // `I` and `V`: what follows the u32 of the record that begins with byte `at` is now the image, or the voice file.
+    pub fn after(self, script: &[u8], at: usize) -> Parts
+        requires { ⌜ at < limit ⌝ }
     {
-        let p = put(out, at, b'\n');
-        let used = chip_line(out, p, chip);
-        let player = self.with_chip(chip);
-        Played { player, used }
+        let from = at + 5;
+        let end = from + word_at(script, at + 1);
+        match byte_at(script, at) {
+            b'I' => Parts {
+                image: from,
+                image_end: end,
+                voice: self.voice,
+                voice_end: self.voice_end,
+            },
+            b'V' => Parts {
+                image: self.image,
+                image_end: self.image_end,
+                voice: from,
+                voice_end: end,
+            },
+            _ => self,
+        }
     }
 }
 
-// The bytes behind a u32 that counts them.
-fn counted(script: &[u8], at: usize) -> Part
-    requires { ⌜ at ≤ limit ⌝ }
-{
-    let from = at + 4;
-    Part {
-        from,
-        end: from + word_at(script, at),
-    }
+// What a record leaves: the chip, and how much of the buffer is used.
+pub struct Played {
+    pub chip: Chip,
+    pub used: usize,
 }
 
-// `I`: from now on this image.
-fn image_record(script: &[u8], at: usize, player: Player, out: &mut [u8], used: usize) -> Played
-    requires { ⌜ at ≤ limit ⌝ }
+// A call's answer ends with the line of the chip that it hands back.
+fn hand_back(chip: Chip, out: &mut [u8], used: usize) -> Played
     ensures { λ r. ⌜ r .used ≤ length (now (out .entry)) ⌝ }
 {
-    let mut after = player;
-    after.image = counted(script, at);
-    let list = [word_at(script, at) as u64];
+    let list = fields(chip);
     Played {
-        player: after,
-        used: line(out, used, b'I', &list),
+        chip,
+        used: chip_line(out, used, &list),
     }
-}
-
-// `V`: from now on this voice file.
-fn voice_record(script: &[u8], at: usize, player: Player, out: &mut [u8], used: usize) -> Played
-    requires { ⌜ at ≤ limit ⌝ }
-    ensures { λ r. ⌜ r .used ≤ length (now (out .entry)) ⌝ }
-{
-    let mut after = player;
-    after.voice = counted(script, at);
-    let list = [voice_check(after.voice(script)) as u64];
-    Played {
-        player: after,
-        used: line(out, used, b'V', &list),
-    }
-}
-
-// `F`: a frame taken at a bit of the image.
-fn frame_line(script: &[u8], at: usize, player: Player, out: &mut [u8], used: usize) -> usize
-    requires { ⌜ at ≤ limit ⌝ }
-    ensures { λ r. ⌜ r ≤ length (now (out .entry)) ⌝ }
-{
-    let taken = frame_taken(player.image(script), word_at(script, at));
-    let found = taken.frame;
-    let list = [taken.refusal as u64, taken.bits as u64];
-    let p = head(out, used, b'F', &list);
-    let p = frame(out, p, found);
-    put(out, p, b'\n')
-}
-
-// The sum of bytes modulo 65,536.
-fn sum(bytes: &[u8]) -> u64 {
-    let mut total: u64 = 0;
-    for i in 0..bytes.len() {
-        total = (total + byte_at(bytes, i) as u64) % 65536;
-    }
-    total
-}
-
-// What a walk from a byte address answers, with the length of its part and the sum of the part's bytes.
-fn walk_numbers(image: &[u8], address: usize) -> [u64; 7] {
-    let walked = walk(image, address);
-    let part = phrase(image, address);
-    [
-        walked.refusal as u64,
-        walked.bits as u64,
-        walked.frames.0 as u64,
-        walked.intervals.0,
-        walked.samples.0,
-        part.len() as u64,
-        sum(part),
-    ]
-}
-
-// `A`: a walk from a byte address.
-fn walk_line(script: &[u8], at: usize, player: Player, out: &mut [u8], used: usize) -> usize
-    requires { ⌜ at ≤ limit ⌝ }
-    ensures { λ r. ⌜ r ≤ length (now (out .entry)) ⌝ }
-{
-    let list = walk_numbers(player.image(script), word_at(script, at));
-    line(out, used, b'A', &list)
 }
 
 // `P`: power-up.
-fn power_record(player: Player, out: &mut [u8], used: usize) -> Played
+fn power_up(out: &mut [u8], used: usize) -> Played
     ensures { λ r. ⌜ r .used ≤ length (now (out .entry)) ⌝ }
 {
-    let p = head(out, used, b'P', &[0]);
-    player.answer(Chip::power_up(), out, p)
+    let p = line(out, used, b'P', TAKEN);
+    hand_back(Chip::power_up(), out, p)
 }
 
 // The 63 numbers of a state.
@@ -184,139 +100,112 @@ fn state_at(script: &[u8], at: usize) -> [i64; 63]
 }
 
 // `S`: the chip is this state.
-fn state_record(script: &[u8], at: usize, player: Player, out: &mut [u8], used: usize) -> Played
+fn set(script: &[u8], at: usize, out: &mut [u8], used: usize) -> Played
     requires { ⌜ at ≤ limit ⌝ }
     ensures { λ r. ⌜ r .used ≤ length (now (out .entry)) ⌝ }
 {
-    let chip = of_fields(state_at(script, at));
-    Played {
-        player: player.with_chip(chip),
-        used: chip_line(out, used, chip),
-    }
+    hand_back(of_fields(state_at(script, at)), out, used)
 }
 
 // `W`: a byte written.
-fn write_record(script: &[u8], at: usize, player: Player, out: &mut [u8], used: usize) -> Played
+fn write(script: &[u8], at: usize, parts: Parts, chip: Chip, out: &mut [u8], used: usize) -> Played
     ensures { λ r. ⌜ r .used ≤ length (now (out .entry)) ⌝ }
 {
-    let chip = player.chip;
-    let written = chip.write(player.image(script), byte_at(script, at));
-    let list = [written.refusal as u64];
-    let p = head(out, used, b'W', &list);
-    player.answer(written.chip, out, p)
+    let written = chip.write(parts.image(script), byte_at(script, at));
+    let p = line(out, used, b'W', written.refusal);
+    hand_back(written.chip, out, p)
 }
 
 // `R`: a byte read.
-fn read_record(player: Player, out: &mut [u8], used: usize) -> Played
+fn read(chip: Chip, out: &mut [u8], used: usize) -> Played
     ensures { λ r. ⌜ r .used ≤ length (now (out .entry)) ⌝ }
 {
-    let chip = player.chip;
     let read = chip.read();
-    let list = [read.refusal as u64, read.byte as u64];
-    let p = head(out, used, b'R', &list);
-    player.answer(read.chip, out, p)
+    let p = read_line(out, used, read.refusal, read.byte);
+    hand_back(read.chip, out, p)
 }
 
 // `T`: a sample step.
-fn step_record(script: &[u8], player: Player, out: &mut [u8], used: usize) -> Played
+fn step(script: &[u8], parts: Parts, chip: Chip, out: &mut [u8], used: usize) -> Played
     ensures { λ r. ⌜ r .used ≤ length (now (out .entry)) ⌝ }
 {
-    let chip = player.chip;
-    let stepped = chip.step(player.image(script), player.voice(script));
+    let stepped = chip.step(parts.image(script), parts.voice(script));
     let told = stepped.report;
-    let list = [stepped.refusal as u64];
-    let p = head(out, used, b'T', &list);
-    let p = sample(out, p, stepped.sample);
-    let p = report(out, p, told);
-    player.answer(stepped.chip, out, p)
+    let p = step_line(
+        out,
+        used,
+        stepped.refusal,
+        stepped.sample,
+        told.number(),
+        told.frame(),
+    );
+    hand_back(stepped.chip, out, p)
 }
 
-// What each element of a run's buffer is before the call. No sample is so large.
-const UNTOUCHED: i16 = 9999;
-
-// Whether any element is another than before the call.
-fn is_touched(values: &[i16]) -> bool {
-    let mut touched = false;
-    for i in 0..values.len() {
-        touched = touched | (values[i] != UNTOUCHED);
-    }
-    touched
-}
-
-// What a refused run answers: no sample, and whether an element was touched.
-fn refused_run(refusal: u8, values: &[i16], out: &mut [u8], used: usize) -> usize
-    ensures { λ r. ⌜ r ≤ length (now (out .entry)) ⌝ }
-{
-    let list = [refusal as u64, 0];
-    let p = head(out, used, b'U', &list);
-    if is_touched(values) {
-        text(out, p, b" touched")
-    } else {
-        p
-    }
-}
-
-// What a run answers besides the chip.
-fn run_answer(refusal: u8, values: &[i16], out: &mut [u8], used: usize) -> usize
-    ensures { λ r. ⌜ r ≤ length (now (out .entry)) ⌝ }
-{
-    if refusal != TAKEN {
-        return refused_run(refusal, values, out, used);
-    }
-    let list = [TAKEN as u64, values.len() as u64];
-    let p = head(out, used, b'U', &list);
-    samples(out, p, values)
-}
-
-// A run into a buffer, and its answers.
+// A run into a buffer.
 fn run_into(
     script: &[u8],
-    player: Player,
+    parts: Parts,
+    chip: Chip,
     values: &mut [i16],
     out: &mut [u8],
     used: usize,
 ) -> Played
     ensures { λ r. ⌜ r .used ≤ length (now (out .entry)) ⌝ }
 {
-    let chip = player.chip;
-    let ran = chip.run(player.image(script), player.voice(script), values);
-    let p = run_answer(ran.refusal, values, out, used);
-    player.answer(ran.chip, out, p)
+    let ran = chip.run(parts.image(script), parts.voice(script), values);
+    let p = run_line(out, used, ran.refusal, values);
+    hand_back(ran.chip, out, p)
 }
 
 // `U`: a run.
-fn run_record(script: &[u8], at: usize, player: Player, out: &mut [u8], used: usize) -> Played
+fn run(script: &[u8], at: usize, parts: Parts, chip: Chip, out: &mut [u8], used: usize) -> Played
     requires { ⌜ at ≤ limit ⌝ }
     ensures { λ r. ⌜ r .used ≤ length (now (out .entry)) ⌝ }
 {
     let n = run_length(script, at);
     let mut values = [UNTOUCHED; 8192];
-    run_into(script, player, &mut values[..n], out, used)
+    run_into(script, parts, chip, &mut values[..n], out, used)
+}
+
+// The answers of the records that leave the chip as it is: `I`, `V`, `F` and `A`.
+fn tell(script: &[u8], at: usize, parts: Parts, out: &mut [u8], used: usize) -> usize
+    requires { ⌜ at < limit ⌝ }
+    ensures { λ r. ⌜ r ≤ length (now (out .entry)) ⌝ }
+{
+    let image = parts.image(script);
+    let n = word_at(script, at + 1);
+    match byte_at(script, at) {
+        b'I' => image_line(out, used, n),
+        b'V' => line(out, used, b'V', voice_check(parts.voice(script))),
+        b'F' => frame_line(out, used, image, n),
+        _ => walk_line(out, used, image, n),
+    }
 }
 
 // Plays the record that begins with byte `at`. A record has been seen to be whole before.
-pub fn play(script: &[u8], at: usize, player: Player, out: &mut [u8], used: usize) -> Played
-    requires { ⌜ (at < limit) × (used ≤ length (now out)) ⌝ }
+pub fn play(
+    script: &[u8],
+    at: usize,
+    parts: Parts,
+    chip: Chip,
+    out: &mut [u8],
+    used: usize,
+) -> Played
+    requires { ⌜ at < limit ⌝ }
     ensures { λ r. ⌜ r .used ≤ length (now (out .entry)) ⌝ }
 {
-    let letter = byte_at(script, at);
     let body = at + 1;
-    match letter {
-        b'I' => image_record(script, body, player, out, used),
-        b'V' => voice_record(script, body, player, out, used),
-        b'F' => Played {
-            player,
-            used: frame_line(script, body, player, out, used),
+    match byte_at(script, at) {
+        b'P' => power_up(out, used),
+        b'S' => set(script, body, out, used),
+        b'W' => write(script, body, parts, chip, out, used),
+        b'R' => read(chip, out, used),
+        b'T' => step(script, parts, chip, out, used),
+        b'U' => run(script, body, parts, chip, out, used),
+        _ => Played {
+            chip,
+            used: tell(script, at, parts, out, used),
         },
-        b'A' => Played {
-            player,
-            used: walk_line(script, body, player, out, used),
-        },
-        b'P' => power_record(player, out, used),
-        b'S' => state_record(script, body, player, out, used),
-        b'W' => write_record(script, body, player, out, used),
-        b'R' => read_record(player, out, used),
-        b'T' => step_record(script, player, out, used),
-        _ => run_record(script, body, player, out, used),
     }
 }

@@ -5,25 +5,25 @@ use Prim.Native.Nat.{_+_, _-_, _≤_}
 use native.Mathlib.Omega.{arith}
 use lib.ListN.{length}
 use lib.Seq.{length-take-le}
-use Rattle.script.specs.Script.{limit, byteAt, wordAt, bodyOf}
+use Rattle.script.specs.Script.{byteAt, wordAt, bodyOf}
 use Rattle.script.proofs.Records.{whole-next}
 use Rattle.trace.proofs.play_all.Statement.{statement}
 use Rattle.trace.proofs.play_all.Tie as tie
 
 abbrev Inv-loop : tie.InvT-loop
-Inv-loop script out₀ player₀ at₀ used₀ t11 out player at used = (length out ≡ length out₀) × (at ≤ length script) × (used ≤ length out₀) × (length script ≤ limit)
+Inv-loop script out₀ parts₀ chip₀ at₀ used₀ out parts chip at used = (length out ≡ length out₀) × (at ≤ length script) × (used ≤ length out₀)
 
 abbrev μ-loop : tie.MeasureT-loop
-μ-loop script out₀ player₀ at₀ used₀ t11 out player at used = length script - at
+μ-loop script out₀ parts₀ chip₀ at₀ used₀ out parts chip at used = length script - at
 
 -- the next record begins behind this one's letter, and within the script or at its end
-ends : (c : tie.After-player Inv-loop μ-loop)
-    → let r = c .before .before .before .before .before .before .before .before .before in
+ends : (c : tie.After-chip Inv-loop μ-loop)
+    → let r = c .before .before .before .before .before .before .before .before .before .before in
     let l = r .before .before .before .before .loop in
     let s = r .before .before .before .before .before .before .before .before .args .script .now in
     (l .at + 1 ≤ r .«record» .given .0 .0) × (r .«record» .given .0 .0 ≤ length s)
 ends c =
-    let r = c .before .before .before .before .before .before .before .before .before in
+    let r = c .before .before .before .before .before .before .before .before .before .before in
     let l = r .before .before .before .before .loop in
     let s = r .before .before .before .before .before .before .before .before .args .script .now in
     let h : l .at + 1 ≤ length s = omega (arith, r .before .before .before .loop-test .taken) in
@@ -41,19 +41,16 @@ play-all-spec =
     (λ c κs. search needs)
     (λ c. search needs)
     (λ c. search needs)
-    (λ c. search needs)
-    (λ c κs. search needs)
-    (λ c. search needs)
-    (λ c. sym (length-take-le _ _ (search needs)))
     (λ c κs. search needs)
     (λ c. search needs)
     (λ c. search needs)
+    (λ c κs. search needs)
     (λ c κs. search needs)
     (λ c κs. search needs)
     (λ c. search needs)
     (λ c. search needs)
     (λ c. omega (arith, ends c))
-    (λ c. (search needs, ends c .1, search needs, search needs))
+    (λ c. (search needs, ends c .1, search needs))
     (λ c. search needs)
     (λ c. sym (length-take-le _ _ (search needs)))
     (λ c κs. search needs)

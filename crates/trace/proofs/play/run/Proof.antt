@@ -1,12 +1,12 @@
--- `trace::play::run_record` meets its contract. Assumes nothing.
+-- `trace::play::run` meets its contract. Assumes nothing.
 use borrow.Author.Needs.{needs}
 use mathlib.Core.Path.{sym}
 use lib.Seq.{length-take-le}
-use Rattle.trace.proofs.play.run_record.Statement.{statement}
-use Rattle.trace.proofs.play.run_record.Tie as tie
+use Rattle.trace.proofs.play.run.Statement.{statement}
+use Rattle.trace.proofs.play.run.Tie as tie
 
-pub run-record-spec : {M : Type 1} → statement M
-run-record-spec =
+pub run-spec : {M : Type 1} → statement M
+run-spec =
     tie.close
     (tie.spec
     (λ c κs. search needs)

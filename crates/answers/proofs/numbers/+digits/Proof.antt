@@ -1,15 +1,15 @@
--- `answers::digits`, which calls itself on a tenth of the number, meets its contract. Assumes nothing.
+-- `answers::numbers::digits`, which calls itself on a tenth of the number, meets its contract. Assumes nothing.
 use borrow.Author.Needs.{needs}
 use Prim.Native.Nat.{ℕ, _<_}
 use native.Mathlib.Omega.{arith}
 use borrow.Fn.Kinds.{In}
 use borrow.Fn.PlainCycle.{Measures, is, falls, and}
-use Rattle.answers.proofs.digits.Reads as digits
-use Rattle.answers.proofs.digits.Kinds as digits-kinds
-use Rattle.answers.proofs.+digits.Lts-digits as digits-lts
-use Rattle.answers.proofs.put.Reads as put-reads
-use Rattle.answers.proofs.+digits.{statement}
-use Rattle.answers.proofs.+digits.Tie.{close}
+use Rattle.answers.proofs.numbers.digits.Reads as digits
+use Rattle.answers.proofs.numbers.digits.Kinds as digits-kinds
+use Rattle.answers.proofs.numbers.+digits.Lts-digits as digits-lts
+use Rattle.answers.proofs.numbers.put.Reads as put-reads
+use Rattle.answers.proofs.numbers.+digits.{statement}
+use Rattle.answers.proofs.numbers.+digits.Tie.{close}
 
 abbrev μ-digits : Measures 1 digits-kinds.ps ℕ
 μ-digits κs a = a .1 .1 .0

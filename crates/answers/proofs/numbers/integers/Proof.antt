@@ -1,19 +1,19 @@
--- `answers::naturals` meets its contract. Assumes nothing.
+-- `answers::numbers::integers` meets its contract. Assumes nothing.
 use borrow.Author.Needs.{needs}
-use mathlib.Core.Path.{_≡_}
-use Prim.Native.Nat.{_-_, _≤_}
+use Prim.Native.Nat.{_-_}
 use lib.ListN.{length}
-use Rattle.answers.proofs.naturals.Statement.{statement}
-use Rattle.answers.proofs.naturals.Tie as tie
+use Rattle.answers.proofs.Loops.{Within}
+use Rattle.answers.proofs.numbers.integers.Statement.{statement}
+use Rattle.answers.proofs.numbers.integers.Tie as tie
 
 abbrev Inv-loop : tie.InvT-loop
-Inv-loop out₀ at list p₀ i₀ i-end out p i = (i ≤ length list) × (p ≤ length out₀) × (length out ≡ length out₀)
+Inv-loop out₀ at list p₀ i₀ i-end out p i = Within (length list) out₀ out p i
 
 abbrev μ-loop : tie.MeasureT-loop
 μ-loop out₀ at list p₀ i₀ i-end out p i = length list - i
 
-pub naturals-spec : {M : Type 1} → statement M
-naturals-spec =
+pub integers-spec : {M : Type 1} → statement M
+integers-spec =
     tie.close
     (tie.spec
     Inv-loop

@@ -1,9 +1,9 @@
--- `trace::play::is_touched` meets its contract. Assumes nothing.
+-- `answers::lines::is_touched` meets its contract. Assumes nothing.
 use borrow.Author.Needs.{needs}
 use Prim.Native.Nat.{_-_, _≤_}
 use lib.ListN.{length}
-use Rattle.trace.proofs.play.is_touched.Statement.{statement}
-use Rattle.trace.proofs.play.is_touched.Tie as tie
+use Rattle.answers.proofs.lines.is_touched.Statement.{statement}
+use Rattle.answers.proofs.lines.is_touched.Tie as tie
 
 abbrev Inv-loop : tie.InvT-loop
 Inv-loop values touched₀ i₀ i-end touched i = i ≤ length values

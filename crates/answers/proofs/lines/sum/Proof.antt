@@ -1,9 +1,10 @@
--- `trace::play::sum` meets its contract. Assumes nothing.
+-- `answers::lines::sum` meets its contract. Assumes nothing.
 use borrow.Author.Needs.{needs}
 use Prim.Native.Nat.{_-_, _≤_}
+use native.Mathlib.Omega.{arith}
 use lib.ListN.{length}
-use Rattle.trace.proofs.play.sum.Statement.{statement}
-use Rattle.trace.proofs.play.sum.Tie as tie
+use Rattle.answers.proofs.lines.sum.Statement.{statement}
+use Rattle.answers.proofs.lines.sum.Tie as tie
 
 abbrev Inv-loop : tie.InvT-loop
 Inv-loop bytes total₀ i₀ i-end total i = (i ≤ length bytes) × (total ≤ 65535)
@@ -18,9 +19,9 @@ sum-spec =
     Inv-loop
     μ-loop
     (λ c. search needs)
-    (λ c κs. search needs)
     (λ c. search needs)
-    (λ c. search needs)
+    (λ c. omega (arith, c .shared-slice-known .given (c .before .before .loop .i)))
+    (λ c. omega (arith, c .shared-slice-known .given (c .before .before .loop .i)))
     (λ c. search needs)
     (λ c. search needs)
     (λ c. search needs)

@@ -1,13 +1,13 @@
--- `answers::text` meets its contract. Assumes nothing.
+-- `answers::numbers::text` meets its contract. Assumes nothing.
 use borrow.Author.Needs.{needs}
-use mathlib.Core.Path.{_≡_}
-use Prim.Native.Nat.{_-_, _≤_}
+use Prim.Native.Nat.{_-_}
 use lib.ListN.{length}
-use Rattle.answers.proofs.text.Statement.{statement}
-use Rattle.answers.proofs.text.Tie as tie
+use Rattle.answers.proofs.Loops.{Within}
+use Rattle.answers.proofs.numbers.text.Statement.{statement}
+use Rattle.answers.proofs.numbers.text.Tie as tie
 
 abbrev Inv-loop : tie.InvT-loop
-Inv-loop out₀ at word p₀ i₀ i-end out p i = (i ≤ length word) × (p ≤ length out₀) × (length out ≡ length out₀)
+Inv-loop out₀ at word p₀ i₀ i-end out p i = Within (length word) out₀ out p i
 
 abbrev μ-loop : tie.MeasureT-loop
 μ-loop out₀ at word p₀ i₀ i-end out p i = length word - i

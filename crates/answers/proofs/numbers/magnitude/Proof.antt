@@ -1,4 +1,4 @@
--- `answers::magnitude` meets its contract. Assumes nothing.
+-- `answers::numbers::magnitude` meets its contract. Assumes nothing.
 use borrow.Author.Needs.{needs}
 use mathlib.Core.Path.{_≡_}
 use Prim.Native.Nat.{_-_, _^_, _<_}
@@ -11,8 +11,8 @@ use mir.Syntax.{w64}
 use mir.Val.{toZ}
 use Rattle.base.proofs.Range.{back-at}
 use Rattle.base.proofs.Signed.{abs-below, not-negative, below-minus-one, negative-abs}
-use Rattle.answers.proofs.magnitude.Statement.{statement}
-use Rattle.answers.proofs.magnitude.Tie as tie
+use Rattle.answers.proofs.numbers.magnitude.Statement.{statement}
+use Rattle.answers.proofs.numbers.magnitude.Tie as tie
 
 module _ (c : tie.Then1) where
   abbrev z : ℤ

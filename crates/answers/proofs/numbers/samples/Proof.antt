@@ -1,13 +1,13 @@
--- `answers::samples` meets its contract. Assumes nothing.
+-- `answers::numbers::samples` meets its contract. Assumes nothing.
 use borrow.Author.Needs.{needs}
-use mathlib.Core.Path.{_≡_}
-use Prim.Native.Nat.{_-_, _≤_}
+use Prim.Native.Nat.{_-_}
 use lib.ListN.{length}
-use Rattle.answers.proofs.samples.Statement.{statement}
-use Rattle.answers.proofs.samples.Tie as tie
+use Rattle.answers.proofs.Loops.{Within}
+use Rattle.answers.proofs.numbers.samples.Statement.{statement}
+use Rattle.answers.proofs.numbers.samples.Tie as tie
 
 abbrev Inv-loop : tie.InvT-loop
-Inv-loop out₀ at values p₀ i₀ i-end out p i = (i ≤ length values) × (p ≤ length out₀) × (length out ≡ length out₀)
+Inv-loop out₀ at values p₀ i₀ i-end out p i = Within (length values) out₀ out p i
 
 abbrev μ-loop : tie.MeasureT-loop
 μ-loop out₀ at values p₀ i₀ i-end out p i = length values - i
