@@ -32,7 +32,7 @@ use denote.Lend.{lends-ref, ref-back}
 use denote.Memory.{mem, partAt, partOf, cellAt}
 use denote.Plain.{uint-makes}
 use denote.Builtin.{u8, usize}
-use denote.Ref.{RefT, NamedLft, MutRef, now}
+use denote.Ref.{RefT, MutRef, now}
 use denote.Steps.{only, owned, facts, heard, nothing}
 use denote.Struct.Laws as LL
 use denote.Struct.Steps.{spelt}
@@ -43,29 +43,15 @@ use denote.Triple.Statement.{Contract, Triple}
 use denote.Triple.Walked.{says}
 use Rattle.rom.specs.Bits.{field}
 use Rattle.lent.specs.declared.Lent.{Lent}
+use Rattle.lent.proofs.Held.{D, L, Reader, Own, moved}
 use Rattle.lent.proofs.Lent as T
 use Rattle.lent.proofs.Lent.Laws as T′
 use Rattle.lent.proofs.next_field.Symbol.{name as #next-field}
 use Rattle.lent.proofs.next_field as next-field
 
--- the reader's type at 'a
-abbrev α : Lft → NamedLft
-α κ = record { mir = named 1; lft = κ }
-
-abbrev pub Reader : Lft → RattleType
-Reader κ = T.the-row (α κ)
-
 -- the reader in memory at the block b, as a local has it
 abbrev pub lies : ℕ → Lent → Fml
 lies b h = fat fullShare (T′.mir erased) b 0 (T′.lowered h)
-
--- what the reader owns
-abbrev pub Own : Lft → Lent → Fml
-Own κ h = Reader κ .own h (T′.lowered h ∷ [])
-
--- the reader, moved on
-abbrev pub moved : Lent → ℕ → Lent
-moved h n = record { image = h .image; at = h .at + n }
 
 module _ {M : Type 1} (𝓤 : URA M) (H : Heap 𝓤) (A : Atoms 𝓤) (at-mem : Memory → SProp 𝓤) (run : Routine → Fun 𝓤) where
   abbrev pub NextField : Contract 𝓤
@@ -135,7 +121,7 @@ module _ {M : Type 1} (𝓤 : URA M) (H : Heap 𝓤) (A : Atoms 𝓤) (at-mem : 
         move ! (5 ∷ []) $ split ! $ move ! (2 ∷ 0 ∷ []) $ use2 W (later (‵ (fdead (ν ∷ κ)) ⊛ ‵ (flft κ (PosShare·left q)))) (within-end 𝓤 H A W ν κ (PosShare·left q)) $ await ! tt $ split ! $
         move ! (1 ∷ 3 ∷ []) $ use2 W (‵ (flft κ q)) (W .lfts .lft-join κ q) $
         move ! (1 ∷ 2 ∷ 4 ∷ []) $ use3 W (later (‵ (partAt R fullShare (moved h n) b 0))) (ref-back 𝓤 H A W R (ν ∷ κ) δ (moved h n) b 0) $ await ! tt $ fpick ! (λ vs. fsplit ! $
-        spelt ! R (Is R) (shows 𝓤 H A R) (LL.vals (T.the-type (α κ)) (T′.the-laws (α κ))) (LL.tells (T.the-type (α κ)) (T′.the-laws (α κ))) fullShare (moved h n) vs b 0 $
+        spelt ! R (Is R) (shows 𝓤 H A R) (LL.vals (D κ) (L κ)) (LL.tells (D κ) (L κ)) fullShare (moved h n) vs b 0 $
         use1 W (‵ (lies b (moved h n))) (W .laws .raw-at fullShare (T′.mir erased) b 0 (T′.lowered (moved h n))) $ at-once ! $ keep ! (0 ∷ 1 ∷ 2 ∷ []) $
         check ! (ap only (is .0) ∙ ap (vint w8) (e .0), subst (λ (z : ℕ). z < 2 ^ 8) (e .0) (is .1)) $ done !)))))
 

@@ -38,7 +38,8 @@ use denote.Exit.{yes}
 use Rattle.rom.specs.Bits.{field}
 use Rattle.rom.specs.declared.head.Head.{Head}
 use Rattle.lent.specs.declared.Lent.{Lent}
-use Rattle.lent.proofs.Lending.{NextField, Own, moved, reads}
+use Rattle.lent.proofs.Held.{Own, moved}
+use Rattle.lent.proofs.Lending.{NextField, reads}
 use Rattle.rom.proofs.head.Head as Made
 use Rattle.rom.proofs.head.Head.Laws as Made′
 use Rattle.lent.proofs.Lent as T
