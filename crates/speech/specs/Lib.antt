@@ -1,2 +1,3 @@
 pub mod Types
 pub mod Advance
+pub mod Laws
