@@ -11,7 +11,7 @@ use Rattle.sound.specs.Noise.{nextNoise}
 use Rattle.chip.specs.State.{powerUp}
 use Rattle.claims.specs.Writes.{afterBytes}
 
--- numbers of a row, some of them signed
+-- a row: what the definitions give, and the numbers of the paper, as integers since a current is one
 pub record Case : Type 0 where
   pub given : List ℤ
   pub paper : List ℤ

@@ -32,10 +32,11 @@ use Rattle.claims.specs.Schedule.{totalBits, endStep, reportAt, talksAft
 
 -- ---- the five loads and Speak
 
--- a load of nibble v: any byte of code 100 with that nibble; and a load of two low bits
+-- a load of nibble v: any byte of code 100 with that nibble
 abbrev pub Load : ℕ → ℕ → Type 0
 Load b v = (commandOf b ≡ LoadAddress) × (b % 16 ≡ v)
 
+-- a load whose two low bits are v
 abbrev pub LoadTwoBits : ℕ → ℕ → Type 0
 LoadTwoBits b v = (commandOf b ≡ LoadAddress) × (b % 4 ≡ v)
 

@@ -1,4 +1,4 @@
--- Demand 3 by example: two small images, a list of calls, and the answers.
+-- Demand 3 by example: two small images, each with a list of calls and its answers.
 use mathlib.Core.Path.{_≡_, refl}
 use mathlib.Core.List.{List, [], _∷_, _++_}
 use Prim.Native.Nat.{ℕ}
@@ -12,7 +12,7 @@ use Rattle.chip.specs.declared.step.Report.{Report}
 use Rattle.chip.specs.declared.step.Report.the-variants.{Nothing, Frame as FrameReport, Stop as StopReport, RanOut}
 use Rattle.claims.specs.Demand3.{Loads, SpeakByte, Call, step, run, read, write, Answer, speaking, answersOf, answersDue, WritesRefused}
 
--- a valid voice file: length 497, version 1, energies, pitches and K values, and one pulse
+-- a valid voice file: length 497, version 1; 15 energies and the first pitch 0, 63 pitches of 257, K values 0; one pulse, of 64
 unfoldable pub voice : List ℕ
 voice = (0x01 ∷ 0xF1 ∷ 1 ∷ []) ++ replicate 32 0 ++ replicate 126 1 ++ replicate 336 0 ++ (1 ∷ 64 ∷ [])
 

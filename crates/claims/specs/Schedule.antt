@@ -19,6 +19,7 @@ use Rattle.chip.specs.declared.step.Report.the-variants.{Nothing, RanOut}
 abbrev pub samplesOfFrame : Frame → ℕ
 samplesOfFrame f = samplesOf (intervalsOf (record { 0 = 1 })) .0
 
+-- the samples of frames
 abbrev pub totalSamples : List Frame → ℕ
 totalSamples [] = 0
 totalSamples (f ∷ fs) = samplesOfFrame f + totalSamples fs
@@ -59,15 +60,19 @@ positionFrom at start end fs n = cond (outFrom at fs n) end (start + totalBits (
 
 -- ---- the first frame is due at step 1, and so a frame at 1 plus the samples of the frames before it
 
+-- the step of the end
 abbrev pub endStep : List Frame → ℕ
 endStep = endFrom 1
 
+-- what step n reports
 abbrev pub reportAt : List Frame → ℕ → Report
 reportAt = reportFrom 1
 
+-- whether the chip talks after n steps
 abbrev pub talksAfter : List Frame → ℕ → Bool
 talksAfter = talksFrom 1
 
+-- the position after n steps
 abbrev pub positionAfter : ℕ → ℕ → List Frame → ℕ → ℕ
 positionAfter = positionFrom 1
 
