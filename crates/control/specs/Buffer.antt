@@ -9,7 +9,7 @@ use Rattle.control.specs.Types.{Fifo}
 abbrev pub appended : Fifo → ℕ → Fifo
 appended f b = record { bytes = set (f .bytes) (f .level) b; level = f .level + 1; used = f .used }
 
--- the FIFO with u bits gone of the oldest bytes: a byte counts as held until its last bit is out
+-- the FIFO with the first u bits of its bytes out, those used before among them: a byte counts as held until its last bit is out
 abbrev pub usedUp : Fifo → ℕ → Fifo
 usedUp f u =
     record { bytes = drop (u / 8) (f .bytes) ++ replicate (u / 8) 0; level = f .level - u / 8; used = u % 8 }

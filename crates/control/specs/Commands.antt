@@ -43,7 +43,7 @@ beyondAt image p Speak = not (leb (p + 1) (8 * length image))
 beyondAt image p SpeakExternal = false
 beyondAt image p Reset = false
 
--- commands are obeyed in idle only
+-- 2 BEYOND in a mode: only idle takes commands that read the image; ROM speech takes Reset alone, the external modes take bytes
 abbrev pub beyond : Mode → List ℕ → ℕ → Command → Bool
 beyond Idle image p k = beyondAt image p k
 beyond Rom image p k = false

@@ -22,7 +22,7 @@ statusOf k = cond (speaks (k .mode)) 128 0 + cond (bufferLow (k .fifo)) 64 0 + c
 abbrev pub busByte : Control → ℕ
 busByte k = cond (k .port .pending) (k .port .byte) (statusOf k)
 
--- a data byte is pending only if the last taken write was Read Byte: every other taken command drops it
+-- the port without a data byte: after every taken command but Read Byte, and after a data read
 abbrev pub noData : Port → Port
 noData p = record { pending = false; byte = 0; interrupt = p .interrupt }
 

@@ -29,7 +29,7 @@ pub struct Fifo {
     pub used: u8,
 }
 
-// What a read finds besides the status: a data byte that is pending, and the interrupt line.
+// The bus side: the data byte that the next read gets, if one is pending, and the interrupt.
 pub struct Port {
     pub pending: bool,
     pub byte: u8,

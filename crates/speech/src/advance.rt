@@ -35,6 +35,7 @@ pub enum Action {
     Continue,
 }
 
+// The control after a step, and what it asks of the sound.
 pub struct Moved {
     pub control: Control,
     pub action: Action,
@@ -51,6 +52,7 @@ fn raises(control: Control, mode: Mode, fifo: Fifo) -> bool
     (spoke & !speaks) | (!held.is_low() & fifo.is_low()) | (!held.is_empty() & fifo.is_empty())
 }
 
+// The control with another mode, position, FIFO and clock, and the interrupt that this sets.
 fn change(control: Control, mode: Mode, position: usize, fifo: Fifo, clock: Clock) -> Control
     ensures { λ r. ⌜ r ≡ changed control mode position fifo clock ⌝ }
 {
@@ -96,6 +98,7 @@ fn take_frame(control: Control, frame: Frame, position: usize, held: Fifo) -> Mo
     }
 }
 
+// Running out: idle, and the sound goes to rest at once.
 fn run_out(control: Control, position: usize, held: Fifo) -> Moved
     ensures { λ r. ⌜ r ≡ ranOut control position held ⌝ }
 {
@@ -154,6 +157,7 @@ fn from_fifo(control: Control) -> Moved
     }
 }
 
+// A frame boundary in idle or waiting: the sound goes to rest.
 fn rest(control: Control) -> Moved
     ensures { λ r. ⌜ r ≡ rested control ⌝ }
 {
