@@ -36,12 +36,13 @@ StepKeepsValid = (image voice : List ℕ) (c : Chip) → valid c ≡ true → va
 abbrev pub RunKeepsValid : Type 0
 RunKeepsValid = (image voice : List ℕ) (c : Chip) (n : ℕ) → valid c ≡ true → valid (runOf image voice c n .chip) ≡ true
 
--- What a step does to the control and what it reports depend on the image and the control alone, not on the voice file or the
--- sound.
+-- two steps that leave the same control and report the same
 pub record SameStep (s t : Stepped) : Type 0 where
   pub control : s .chip .control ≡ t .chip .control
   pub report : s .report ≡ t .report
 
+-- What a step does to the control and what it reports depend on the image and the control alone, not on the voice file or the
+-- sound.
 abbrev pub ControlAlone : Type 0
 ControlAlone =
     (image voice voice′ : List ℕ) (c d : Chip) → c .control ≡ d .control → SameStep (steps image voice c) (steps image voice′ d)

@@ -5,11 +5,13 @@ use crate::state::Chip;
 use base::refusal::STATE;
 use base::refusal::TAKEN;
 
+// What an acknowledge answers: the next chip and the refusal number.
 pub struct Acknowledged {
     pub chip: Chip,
     pub refusal: u8,
 }
 
+// What a read answers besides: the byte that the bus gets.
 pub struct ByteRead {
     pub chip: Chip,
     pub refusal: u8,

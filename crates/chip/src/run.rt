@@ -14,6 +14,7 @@ use crate::state::Chip;
 use base::refusal::TAKEN;
 use base::units::Samples;
 
+// What a run answers: the next chip and the refusal number.
 pub struct Ran {
     pub chip: Chip,
     pub refusal: u8,
@@ -80,7 +81,7 @@ impl Chip {
         chip
     }
 
-    // The same. A chip that does not sound stays silent.
+    // The same for any chip: one that does not sound stays as it is, and its samples are 0.
     fn sound_or_silence(self, image: &[u8], voice: &[u8], out: &mut [i16]) -> Chip
         requires { ⌜ stepFault (now image) (now voice) self ≡ 0 ⌝ }
         ensures { λ r. ⌜ r ≡ stateAfter (sampleStep (now (image .entry)) (now (voice .entry))) (length (now (out .entry))) self ⌝ }

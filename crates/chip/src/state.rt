@@ -4,6 +4,7 @@ ghost use Rattle.chip.specs.State.{powerUp};
 use control::state::Control;
 use sound::state::Sound;
 
+// The chip: what the host sees and steers, and the sound.
 pub struct Chip {
     pub control: Control,
     pub sound: Sound,

@@ -32,6 +32,7 @@ pub enum Report {
     RanOut,
 }
 
+// What a step answers: the next chip, the refusal number, the sample and what it reports.
 pub struct Stepped {
     pub chip: Chip,
     pub refusal: u8,
@@ -109,7 +110,7 @@ fn reported(action: Action) -> Report
     }
 }
 
-// What the sound does for it, at the clock before the step.
+// The sound and the sample, by what the control asked; the clock is that before the step.
 fn apply(action: Action, sound: Sound, voice: &[u8], clock: Clock) -> Sampled
     requires { ⌜ (voiceFault pitches version (now voice) ≡ 0)
         × ((f : Frame) → action ≡ Begin f → Proper pitchBits f)

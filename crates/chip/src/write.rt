@@ -13,6 +13,7 @@ use control::commands::command_of;
 use rom::bits::image_valid;
 use sound::state::Sound;
 
+// What a written byte answers: the next chip and the refusal number.
 pub struct Written {
     pub chip: Chip,
     pub refusal: u8,
