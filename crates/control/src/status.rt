@@ -19,8 +19,8 @@ impl Control {
         ensures { λ r. ⌜ r ≡ statusOf self ⌝ }
     {
         let mode = self.mode;
-        let level = self.fifo.level;
-        flag(mode.speaks(), 0x80) + flag(level <= Control::LOW_LEVEL, 0x40) + flag(level == 0, 0x20)
+        let fifo = self.fifo;
+        flag(mode.speaks(), 0x80) + flag(fifo.is_low(), 0x40) + flag(fifo.is_empty(), 0x20)
     }
 
     // The byte that the bus gets.
