@@ -1,7 +1,7 @@
 -- The place in the ROM (01, "ROM"): Load Address, Read Byte, Read and Branch.
 use mathlib.Core.List.{List}
 use Prim.Native.Nat.{ℕ, _+_, _*_, _/_, _%_, _^_}
-use lib.ListN.{getD}
+use Rattle.base.specs.Bytes.{byteAt}
 use Rattle.control.specs.Types.{Place}
 use Rattle.control.specs.State.{romSize, addressLimit}
 
@@ -20,7 +20,7 @@ pastByte p = record { position = p .position + 8; nibble = 0 }
 
 -- the word at byte address a, first byte low; its low 14 bits become the address's
 abbrev pub branchAddress : List ℕ → ℕ → ℕ
-branchAddress image a = a / romSize * romSize + (getD image a 0 + 256 * getD image (a + 1) 0) % romSize
+branchAddress image a = a / romSize * romSize + (byteAt image a + 256 * byteAt image (a + 1)) % romSize
 
 -- Read and Branch, from the byte holding the position
 abbrev pub branched : List ℕ → Place → Place

@@ -1,11 +1,11 @@
 // The place in the ROM: Load Address, Read Byte, Read and Branch.
 ghost use mathlib.Core.Path.{_≡_};
 ghost use Prim.Native.Nat.{_*_, _/_, _+_, _^_, _≤_, _<_};
-ghost use lib.ListN.{getD};
 ghost use Rattle.control.specs.State.{positionLimit, addressLimit};
 ghost use Rattle.control.specs.Addresses.{withNibble, loaded, pastByte, branchAddress, branched, restarted};
 use crate::state::Control;
 use crate::state::Place;
+use base::bytes::byte_at;
 
 // The weight of a nibble of an address.
 fn weight(nibble: u8) -> usize
@@ -31,25 +31,13 @@ fn with_nibble(address: usize, nibble: u8, value: u8) -> usize
     (address / above * above + value as usize * w + address % w) % Control::ADDRESS_LIMIT
 }
 
-// A byte of the image, 0 past its end.
-fn byte_at(image: &[u8], index: usize) -> usize
-    ensures { λ r. ⌜ r ≡ getD (now (image .entry)) index 0 ⌝ }
-    ensures { λ r. ⌜ r < 256 ⌝ }
-{
-    if index < image.len() {
-        image[index] as usize
-    } else {
-        0
-    }
-}
-
 // Where a branch from a byte address leads.
 fn branch_address(image: &[u8], address: usize) -> usize
     requires { ⌜ address ≤ addressLimit ⌝ }
     ensures { λ r. ⌜ r ≡ branchAddress (now (image .entry)) address ⌝ }
 {
-    let low = byte_at(image, address);
-    let high = byte_at(image, address + 1);
+    let low = byte_at(image, address) as usize;
+    let high = byte_at(image, address + 1) as usize;
     address / Control::ROM_SIZE * Control::ROM_SIZE + (low + 256 * high) % Control::ROM_SIZE
 }
 
