@@ -13,7 +13,7 @@ use Rattle.base.specs.Steps.{stateAfter, outputs}
 use Rattle.base.proofs.Booleans.{both-true}
 use Rattle.base.proofs.Steps.{after-add, outputs-add, after-keeps}
 use Rattle.voice.specs.Layout.{pitches}
-use Rattle.sound.specs.Sample.{sampled, soundAfter, valuesOf, sampleStep as soundStep}
+use Rattle.sound.specs.Sample.{sampled, valuesOf, sampleStep as soundStep}
 use Rattle.sound.specs.Interpolation.{interpolated}
 use Rattle.sound.specs.declared.state.Sound.{Sound}
 use Rattle.control.specs.State.{withClock}

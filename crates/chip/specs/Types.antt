@@ -1,13 +1,8 @@
 -- The declared types of the source and of the crates below it, by short names.
 pub use Rattle.control.specs.declared.state.Mode.{Mode}
-pub use Rattle.control.specs.declared.state.Mode.the-variants.{Idle, Rom, Waiting, External}
-pub use Rattle.control.specs.declared.state.Place.{Place}
-pub use Rattle.control.specs.declared.state.Fifo.{Fifo}
 pub use Rattle.control.specs.declared.state.Port.{Port}
 pub use Rattle.control.specs.declared.state.Clock.{Clock}
 pub use Rattle.control.specs.declared.state.Control.{Control}
-pub use Rattle.control.specs.declared.commands.Command.{Command}
-pub use Rattle.control.specs.declared.commands.Command.the-variants.{Nothing, ReadByte, ReadAndBranch, LoadAddress, Speak, SpeakExternal, Reset}
 pub use Rattle.bus.specs.declared.commands.Accepted.{Accepted}
 pub use Rattle.speech.specs.declared.advance.Action.{Action}
 pub use Rattle.speech.specs.declared.advance.Action.the-variants.{Silent, Rest, RunOut, Begin, Continue}

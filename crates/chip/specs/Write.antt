@@ -10,7 +10,7 @@ use Rattle.control.specs.Commands.{commandOf, waits, beyond}
 use Rattle.bus.specs.Accept.{accepted}
 use Rattle.chip.specs.Validity.{valid}
 
--- the fault of a written byte, in 01's order of checks
+-- the fault of a written byte, in 01's order of checks: 3, 4, 1, 2
 unfoldable pub writeFault : List ℕ → Chip → ℕ → ℕ
 writeFault image c b =
     let m = c .control .mode in

@@ -15,9 +15,9 @@ use Rattle.rom.specs.Bits.{imageValid}
 use Rattle.rom.specs.declared.frames.Frame.{Frame}
 use Rattle.control.specs.State.{started}
 use Rattle.control.specs.declared.commands.Command.the-variants.{Speak}
+use Rattle.bus.specs.Commands.{obeyed}
 use Rattle.speech.specs.Advance.{advanced}
 use Rattle.chip.specs.Validity.{valid}
-use Rattle.bus.specs.Commands.{obeyed}
 use Rattle.chip.specs.Write.{writeFault, afterByte, writeOf}
 use Rattle.chip.specs.Step.{steps, notStepped, stepOf}
 use Rattle.chip.specs.Run.{sampleStep, runOf}

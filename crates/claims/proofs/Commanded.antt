@@ -8,9 +8,9 @@ use Rattle.rom.specs.Bits.{imageValid}
 use Rattle.control.specs.Commands.{commandOf, beyondAt}
 use Rattle.control.specs.declared.state.Mode.the-variants.{Idle}
 use Rattle.control.specs.declared.commands.Command.{Command}
-use Rattle.chip.specs.Validity.{valid}
 use Rattle.bus.specs.Commands.{obeyed}
 use Rattle.bus.proofs.Accepting.{in-mode}
+use Rattle.chip.specs.Validity.{valid}
 use Rattle.chip.specs.Write.{writeFault, afterByte, writeOf}
 use Rattle.chip.specs.declared.state.Chip.{Chip}
 use Rattle.chip.proofs.Writing.{write-taken}
