@@ -1,16 +1,16 @@
 -- Demand 3 holds.
 -- Assumes nothing.
 use mathlib.Core.Path.{_≡_, refl, sym, ap, ap₂, _∙_}
-use mathlib.Core.Bool.{true}
 use mathlib.Core.List.{List, [], _∷_, _++_}
 use Prim.Native.Nat.{ℕ, _+_, _*_, _≤_}
 use native.Mathlib.Omega.{arith}
 use borrow.Author.Tests.{le-leb}
 use Rattle.rom.specs.Frames.{pitchBits}
-use Rattle.rom.specs.Items.{Ended, last, more, hasStop}
+use Rattle.rom.specs.Items.{Ended, last, more}
 use Rattle.rom.specs.Phrases.{frameCode, PhraseAt, framesAt}
 use Rattle.rom.specs.declared.frames.Frame.{Frame}
 use Rattle.rom.specs.declared.phrases.Walked.{Walked}
+use Rattle.rom.proofs.ItemLaws.{has-stop}
 use Rattle.rom.proofs.Theorems.{walk-accepts, walk-counts, phrase-unique, frames-read}
 use Rattle.claims.specs.Schedule.{samplesOfFrame, totalBits, dueFrom, endFrom, endStep}
 use Rattle.claims.specs.Demand3.{positionDue, Demand3}
@@ -18,10 +18,6 @@ use Rattle.claims.proofs.Opening.{opening}
 use Rattle.claims.proofs.Calls.{core}
 
 -- ---- a phrase from its stop's step on
-
-phrase-stops : {fs : List Frame} → Ended (frameCode pitchBits) fs → hasStop (frameCode pitchBits) fs ≡ true
-phrase-stops (last s) = rw s
-phrase-stops (more s d) = rw s (phrase-stops d)
 
 -- all its frames are due
 all-due : {fs : List Frame} → Ended (frameCode pitchBits) fs → (at n : ℕ) → endFrom at fs ≤ n → (at ≤ n) × (dueFrom at fs n ≡ fs)
@@ -34,7 +30,7 @@ all-due (more {f = f} {fs = fs} s d) at n h =
 
 ends-past : (image : List ℕ) (a : ℕ) {fs : List Frame} → PhraseAt pitchBits image a fs → (n : ℕ) → endStep fs ≤ n
     → positionDue image a fs n ≡ 8 * a + totalBits fs
-ends-past image a p n h = rw (phrase-stops (p .ended), all-due (p .ended) 1 n h .1)
+ends-past image a p n h = rw (has-stop (p .ended), all-due (p .ended) 1 n h .1)
 
 pub demand-3 : Demand3
 demand-3 image a i inside = record {

@@ -1,21 +1,18 @@
 -- The steps of the schedule, numbered as 01 says.
 -- Assumes nothing.
 use mathlib.Core.Path.{_≡_, refl, _∙_}
-use mathlib.Core.Bool.{Bool, true, false, _||_, true≢false}
+use mathlib.Core.Bool.{false}
 use mathlib.Core.List.{List, [], _∷_, _++_, append-nil}
 use Prim.Native.Nat.{ℕ, _+_}
 use native.Mathlib.Nat.{add-assoc, add-zero}
 use native.Mathlib.Omega.{arith}
 use borrow.Author.Tests.{eq-eqb, ne-eqb}
+use Rattle.base.proofs.Booleans.{neither}
 use Rattle.rom.specs.Frames.{pitchBits, isStop}
 use Rattle.rom.specs.Items.{hasStop}
 use Rattle.rom.specs.Phrases.{frameCode}
 use Rattle.rom.specs.declared.frames.Frame.{Frame}
 use Rattle.claims.specs.Schedule.{samplesOfFrame, totalSamples, endFrom, reportFrom, Numbered}
-
-neither : (a b : Bool) → (a || b) ≡ false → (a ≡ false) × (b ≡ false)
-neither true b e = absurd (true≢false e)
-neither false b e = (refl, e)
 
 -- past frames that are no stops, the others are due after their samples
 report-past : (at : ℕ) (gs hs : List Frame) → hasStop (frameCode pitchBits) gs ≡ false
