@@ -1,3 +1,4 @@
+pub mod Beginnings
 pub mod Bytewise
 pub mod Phrases
 pub mod Turns

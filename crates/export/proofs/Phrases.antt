@@ -19,6 +19,7 @@ use Rattle.chip.specs.declared.run.Ran.{Ran}
 use Rattle.export.specs.Types.{Given}
 use Rattle.export.specs.Giving.{given}
 use Rattle.export.specs.Speak.{speakBytes, begun, speakFault, spokenInto}
+use Rattle.export.proofs.Beginnings.{begin-refused, begin-taken}
 
 -- a chip that begins to speak, by the number of the address
 module _ (image : List ℕ) (a : ℕ) {n : ℕ} (e : n ≡ imageFault image (leb (length image) a)) where
@@ -51,14 +52,12 @@ module _ (image voice : List ℕ) (a : ℕ) (out : List ℤ) {g : Given} (e : g 
   pub speak-refused : (g .refusal ≡ 0 → ⊥)
       → (g .refusal ≡ speakFault image voice a (length out)) × (out ≡ spokenInto image voice a out)
   unfolding speakFault spokenInto
-  speak-refused h = (refused-with number (λ (n : ℕ). n) _ h refl, refused-with number (λ (n : ℕ). out) _ h refl)
+  speak-refused = begin-refused out number _ _
 
   pub speak-ran : {r : Ran} {new : List ℤ} → g .refusal ≡ 0
       → (r ≡ runOf image voice (g .chip) (length out)) × (new ≡ bufferOf image voice (g .chip) out)
       → (r .refusal ≡ speakFault image voice a (length out)) × (new ≡ spokenInto image voice a out)
   unfolding speakFault spokenInto
-  speak-ran h r = (
-    answered number (λ (n : ℕ). n) _ h
-        (ap (λ (r : Ran). r .refusal) (r .0) ∙ ap (λ (g : Given). runOf image voice (g .chip) (length out) .refusal) e),
-    answered number (λ (n : ℕ). out) _ h (r .1 ∙ ap (λ (g : Given). bufferOf image voice (g .chip) out) e),
-  )
+  speak-ran h r =
+      begin-taken out number _ _ h (ap (λ (r : Ran). r .refusal) (r .0) ∙ ap (λ (g : Given). runOf image voice (g .chip) (length out) .refusal) e)
+      (r .1 ∙ ap (λ (g : Given). bufferOf image voice (g .chip) out) e)

@@ -12,7 +12,6 @@ use lib.IntN.{ℤ}
 use lib.ListN.{length, take, drop, length-append, take-append-drop}
 use lib.Seq.{take-at, drop-drop, length-take-le}
 use Rattle.base.specs.Steps.{outputs}
-use Rattle.base.proofs.Faults.{answered, refused-with}
 use Rattle.base.proofs.Steps.{outputs-length}
 use Rattle.voice.specs.Layout.{pitches}
 use Rattle.voice.specs.Check.{voiceFault, version}
@@ -23,6 +22,7 @@ use Rattle.chip.specs.declared.state.Chip.{Chip}
 use Rattle.chip.specs.declared.write.Written.{Written}
 use Rattle.export.specs.Types.{Given, Fed}
 use Rattle.export.specs.Feed.{turn, turns, filled, turnOf, turned, fedFault, fedInto, external, started, externalFault, externalInto}
+use Rattle.export.proofs.Beginnings.{begin-refused, begin-taken}
 
 -- a whole turn less
 one-less : (n i : ℕ) → turn ≤ n - i → suc (turns (n - (i + turn))) ≡ turns (n - i)
@@ -108,15 +108,12 @@ module _ (image voice bytes : List ℕ) where
     pub external-refused : (w .refusal ≡ 0 → ⊥)
         → (w .refusal ≡ externalFault image voice bytes (length out)) × (out ≡ externalInto image voice bytes out)
     unfolding externalFault externalInto
-    external-refused h = (refused-with number (λ (n : ℕ). n) _ h refl, refused-with number (λ (n : ℕ). out) _ h refl)
+    external-refused = begin-refused out number _ _
 
     module _ {k : ℕ} (v : k ≡ voiceFault pitches version voice) (h : w .refusal ≡ 0) where
       pub voice-refused : (k ≡ 0 → ⊥) → (k ≡ externalFault image voice bytes (length out)) × (out ≡ externalInto image voice bytes out)
       unfolding externalFault externalInto
-      voice-refused r = (
-        answered number (λ (n : ℕ). n) _ h (refused-with v (λ (n : ℕ). n) _ r refl),
-        answered number (λ (n : ℕ). out) _ h (refused-with v (λ (n : ℕ). out) _ r refl),
-      )
+      voice-refused r = let v = begin-refused out v _ _ r in begin-taken out number _ _ h (v .0) (v .1)
 
       pub external-fed : {n : ℕ} {new : List ℤ} → k ≡ 0
           → n ≡ fedFault image voice bytes (turns (length out)) (record { chip = w .chip; refusal = w .refusal; next = 0 })
@@ -125,9 +122,8 @@ module _ (image voice bytes : List ℕ) where
       unfolding externalFault externalInto
       external-fed r n new =
           let from : record { chip = w .chip; refusal = w .refusal; next = 0 } ≡ started image voice bytes =
-          ap (λ (r : ℕ). record { chip = w .chip; refusal = r; next = 0 }) h ∙ ap (λ (w : Written). record { chip = w .chip; refusal = 0; next = 0 }) e in (
-            answered number (λ (n : ℕ). n) _ h
-                (answered v (λ (n : ℕ). n) _ r (n ∙ ap (fedFault image voice bytes (turns (length out))) from)),
-            answered number (λ (n : ℕ). out) _ h
-                (answered v (λ (n : ℕ). out) _ r (new ∙ ap (λ (s : Fed). fedInto image voice bytes (turns (length out)) s out) from)),
-          )
+          ap (λ (r : ℕ). record { chip = w .chip; refusal = r; next = 0 }) h ∙ ap (λ (w : Written). record { chip = w .chip; refusal = 0; next = 0 }) e in
+          let f =
+          begin-taken out v _ _ r (n ∙ ap (fedFault image voice bytes (turns (length out))) from)
+          (new ∙ ap (λ (s : Fed). fedInto image voice bytes (turns (length out)) s out) from) in
+          begin-taken out number _ _ h (f .0) (f .1)
