@@ -34,7 +34,7 @@ pub fn image_line(out: &mut [u8], at: usize, size: usize) -> usize
 }
 
 // `V`, `P` and `W`: a letter and a refusal number alone.
-pub fn line(out: &mut [u8], at: usize, letter: u8, refusal: u8) -> usize
+pub fn refusal_line(out: &mut [u8], at: usize, letter: u8, refusal: u8) -> usize
     ensures { λ r. ⌜ r ≤ length (now (out .entry)) ⌝ }
 {
     let p = head(out, at, letter, refusal);

@@ -84,7 +84,6 @@ fn integer(out: &mut [u8], at: usize, z: i64) -> usize
     }
 }
 
-// Integers, a space before each.
 pub(crate) fn integers(out: &mut [u8], at: usize, list: &[i64]) -> usize
     requires { ⌜ at ≤ length (now out) ⌝ }
     ensures { λ r. ⌜ r ≤ length (now (out .entry)) ⌝ }
@@ -96,7 +95,7 @@ pub(crate) fn integers(out: &mut [u8], at: usize, list: &[i64]) -> usize
     p
 }
 
-// A sample.
+// A space and a sample.
 pub(crate) fn sample(out: &mut [u8], at: usize, value: i16) -> usize
     ensures { λ r. ⌜ r ≤ length (now (out .entry)) ⌝ }
 {

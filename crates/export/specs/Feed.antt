@@ -48,7 +48,7 @@ module _ (image voice bytes : List ℕ) where
 
   -- Speak External, given to a chip fresh from power-up
   abbrev pub external : Written
-  external = writeOf image powerUp 96
+  external = writeOf image powerUp 0x60
 
   -- where the feeding starts
   abbrev pub started : Fed

@@ -14,7 +14,7 @@ use Rattle.export.specs.Giving.{given}
 -- Load Address with each nibble of an address, lowest first, and Speak
 abbrev pub speakBytes : ℕ → List ℕ
 speakBytes a =
-    (64 + a % 16) ∷ (64 + a / 16 % 16) ∷ (64 + a / 256 % 16) ∷ (64 + a / 4096 % 16) ∷ (64 + a / 65536 % 16) ∷ 80 ∷ []
+    (0x40 + a % 16) ∷ (0x40 + a / 16 % 16) ∷ (0x40 + a / 256 % 16) ∷ (0x40 + a / 4096 % 16) ∷ (0x40 + a / 65536 % 16) ∷ 0x50 ∷ []
 
 -- a chip fresh from power-up after these; an address outside the image is refused as the walk refuses it
 unfoldable pub begun : List ℕ → ℕ → Given

@@ -13,10 +13,10 @@ const SPEAK_EXTERNAL: u8 = 0x60;
 const TURN: usize = 100;
 
 // A chip in external speech, the number of its last run, and the index of the next byte for it.
-pub struct Fed {
-    pub chip: Chip,
-    pub refusal: u8,
-    pub next: usize,
+struct Fed {
+    chip: Chip,
+    refusal: u8,
+    next: usize,
 }
 
 // Bytes as far as the chip takes them, and a run.

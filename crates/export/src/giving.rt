@@ -6,14 +6,14 @@ use base::refusal::TAKEN;
 use chip::state::Chip;
 
 // The chip, the number of the byte that was refused, or 0, and the index of the next byte to write.
-pub struct Given {
+pub(crate) struct Given {
     pub chip: Chip,
     pub refusal: u8,
     pub next: usize,
 }
 
 // Writes the bytes from index `from` on, up to the first that is refused.
-pub fn give(chip: Chip, image: &[u8], bytes: &[u8], from: usize) -> Given
+pub(crate) fn give(chip: Chip, image: &[u8], bytes: &[u8], from: usize) -> Given
     ensures { λ r. ⌜ r ≡ given (now (image .entry)) chip from (drop from (now (bytes .entry))) ⌝ }
 {
     let mut chip = chip;

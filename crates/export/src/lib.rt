@@ -2,6 +2,6 @@
 // answers a refusal number of document 01.
 pub mod check;
 pub mod feed;
-pub mod giving;
+mod giving;
 pub mod speak;
 pub mod walk;

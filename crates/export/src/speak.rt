@@ -11,7 +11,7 @@ use base::refusal::TAKEN;
 use chip::state::Chip;
 use rom::bits::image_fault;
 
-// Load Address and Speak, without their nibble.
+// Load Address, without its nibble.
 const LOAD: u8 = 0x40;
 
 const SPEAK: u8 = 0x50;
@@ -89,7 +89,7 @@ fn step_each(chip: Chip, image: &[u8], voice: &[u8], out: &mut [i16])
     }
 }
 
-// The same by a step for each element of the buffer, each of which makes its checks: a run is its steps.
+// As `tms_speak`, but by a step for each element of the buffer, each of which makes its checks: a run is its steps.
 #[no_mangle]
 pub extern "C" fn tms_speak_by_steps(
     image: &[u8],

@@ -19,7 +19,9 @@ pub struct Lent<'a> {
 // The field of a width at the position, which moves on past it.
 pub fn next_field<'s, 'a>(r: &'s mut Lent<'a>, width: usize) -> u8
     requires { ⌜ (width ≤ 8) × (now r .at ≤ 2 ^ 32) ⌝ }
-    ensures { λ v. ⌜ (v ≡ field (now (now (r .entry) .image)) (now (r .entry) .at) width) × (now (r .exit) .image ≡ now (r .entry) .image) × (now (r .exit) .at ≡ now (r .entry) .at + width) ⌝ }
+    ensures { λ v. ⌜ (v ≡ field (now (now (r .entry) .image)) (now (r .entry) .at) width)
+        × (now (r .exit) .image ≡ now (r .entry) .image)
+        × (now (r .exit) .at ≡ now (r .entry) .at + width) ⌝ }
 {
     let at = r.at;
     let v = field_at(r.image, at, width);
@@ -42,7 +44,9 @@ fn bit_after(s: &[u8], at: usize, pitch_bits: usize) -> usize
 // The frame at the position, which moves on past it where the frame is whole.
 pub fn next_frame<'s, 'a>(r: &'s mut Lent<'a>, pitch_bits: usize) -> Taken
     requires { ⌜ («pitch_bits» ≤ 8) × (now r .at < 2 ^ 32 - 64) × (length (now (now r .image)) < 2 ^ 32) ⌝ }
-    ensures { λ t. ⌜ (t ≡ frameAt «pitch_bits» (now (now (r .entry) .image)) (now (r .entry) .at)) × (now (r .exit) .image ≡ now (r .entry) .image) × (now (r .exit) .at ≡ bitAfter (now (r .entry) .at) (frameAt «pitch_bits» (now (now (r .entry) .image)) (now (r .entry) .at))) ⌝ }
+    ensures { λ t. ⌜ (t ≡ frameAt «pitch_bits» (now (now (r .entry) .image)) (now (r .entry) .at))
+        × (now (r .exit) .image ≡ now (r .entry) .image)
+        × (now (r .exit) .at ≡ bitAfter (now (r .entry) .at) (frameAt «pitch_bits» (now (now (r .entry) .image)) (now (r .entry) .at))) ⌝ }
 {
     let image = r.image;
     let at = r.at;
@@ -57,7 +61,8 @@ pub fn next_frame<'s, 'a>(r: &'s mut Lent<'a>, pitch_bits: usize) -> Taken
 // It requires what `next_field` does at each of the three positions; the bound on the bit is that of `next_frame`.
 pub fn head_fields(image: &[u8], at: usize, pitch_bits: usize) -> Head
     requires { ⌜ («pitch_bits» ≤ 8) × (at < 2 ^ 32 - 64) ⌝ }
-    ensures { λ r. ⌜ (r .energy ≡ field (now (image .entry)) at 4) × (r .repeat ≡ field (now (image .entry)) (at + 4) 1) × (r .pitch ≡ field (now (image .entry)) (at + 5) «pitch_bits») ⌝ }
+    ensures { λ r. ⌜ (r .energy ≡ field (now (image .entry)) at 4) × (r .repeat ≡ field (now (image .entry)) (at + 4) 1)
+        × (r .pitch ≡ field (now (image .entry)) (at + 5) «pitch_bits») ⌝ }
 {
     let mut r = Lent { image, at };
     let energy = next_field(&mut r, 4);

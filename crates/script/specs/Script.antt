@@ -14,6 +14,10 @@ use Rattle.script.specs.declared.Record.the-variants.{Whole, Bad}
 abbrev pub limit : ℕ
 limit = 1048576
 
+-- the most samples of a run
+abbrev pub runLimit : ℕ
+runLimit = 8192
+
 -- byte i, 0 past the end
 abbrev pub byteAt : List ℕ → ℕ → ℕ
 byteAt s i = getD s i 0
@@ -35,12 +39,12 @@ abbrev pub partOf : List ℕ → ℕ → ℕ → List ℕ
 partOf s from end = cond (leb from end && leb end (length s)) (take (end - from) (drop from s)) []
 
 -- What follows a letter, of which `count` is the first u32: nothing after P, R and T; a byte after W; a u32 after F, A and U,
--- of which U's is at most 8,192; 63 i64 after S; a u32 and that many bytes after I and V. No other letter begins a record.
+-- of which U's is at most `runLimit`; 63 i64 after S; a u32 and that many bytes after I and V. No other letter begins a record.
 unfoldable pub bodyOf : ℕ → ℕ → Body
 bodyOf letter count =
     cond (eqb letter 80 || eqb letter 82 || eqb letter 84) (Bytes 0)
     (cond (eqb letter 87) (Bytes 1)
-    (cond (eqb letter 70 || eqb letter 65 || (eqb letter 85 && leb count 8192)) (Bytes 4)
+    (cond (eqb letter 70 || eqb letter 65 || (eqb letter 85 && leb count runLimit)) (Bytes 4)
     (cond (eqb letter 83) (Bytes 504)
     (cond (eqb letter 73 || eqb letter 86) (Bytes (4 + count))
     None))))

@@ -1,8 +1,8 @@
 // Scripts: their records, and the numbers in these.
 ghost use mathlib.Core.Path.{_≡_};
-ghost use Prim.Native.Nat.{_*_, _^_, _≤_, _<_};
+ghost use Prim.Native.Nat.{_+_, _^_, _≤_, _<_, min};
 ghost use lib.ListN.{length};
-ghost use Rattle.script.specs.Script.{limit, byteAt, wordAt, signed, longAt, partOf, bodyOf, recordAt};
+ghost use Rattle.script.specs.Script.{limit, runLimit, byteAt, wordAt, signed, longAt, partOf, bodyOf, recordAt};
 
 // The most bytes of a script.
 pub const LIMIT: usize = 1048576;
@@ -17,9 +17,9 @@ pub fn byte_at(script: &[u8], i: usize) -> u8
     if i < script.len() { script[i] } else { 0 }
 }
 
-// The u32 from byte `at` on, little-endian.
+// The u32 from byte `at` on, little-endian. That it is below 2^32 follows from the bytes, of which the definition says no range.
 pub fn word_at(script: &[u8], at: usize) -> usize
-    requires { ⌜ at < 3 * limit ⌝ }
+    requires { ⌜ at < 2 ^ 32 ⌝ }
     ensures { λ r. ⌜ r ≡ wordAt (now (script .entry)) at ⌝ }
     ensures { λ r. ⌜ r < 2 ^ 32 ⌝ }
 {
@@ -42,16 +42,16 @@ fn signed(n: u64) -> i64
 
 // The i64 from byte `at` on, little-endian.
 pub fn long_at(script: &[u8], at: usize) -> i64
-    requires { ⌜ at < 2 * limit ⌝ }
+    requires { ⌜ at + 4 < 2 ^ 32 ⌝ }
     ensures { λ r. ⌜ r ≡ longAt (now (script .entry)) at ⌝ }
 {
     signed(word_at(script, at) as u64 + 0x1_0000_0000 * word_at(script, at + 4) as u64)
 }
 
-// How many samples a run has. No whole record has more than the limit.
+// How many samples a run has, by the u32 from byte `at` on. No whole record has more than the limit.
 pub fn run_length(script: &[u8], at: usize) -> usize
-    requires { ⌜ at ≤ limit ⌝ }
-    ensures { λ r. ⌜ r ≤ 8192 ⌝ }
+    requires { ⌜ at < 2 ^ 32 ⌝ }
+    ensures { λ r. ⌜ r ≡ min (wordAt (now (script .entry)) at) runLimit ⌝ }
 {
     let n = word_at(script, at);
     if n < RUN_LIMIT { n } else { RUN_LIMIT }

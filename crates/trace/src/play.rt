@@ -6,8 +6,8 @@ use answers::lines::UNTOUCHED;
 use answers::lines::chip_line;
 use answers::lines::frame_line;
 use answers::lines::image_line;
-use answers::lines::line;
 use answers::lines::read_line;
+use answers::lines::refusal_line;
 use answers::lines::run_line;
 use answers::lines::step_line;
 use answers::lines::walk_line;
@@ -84,7 +84,7 @@ fn hand_back(chip: Chip, out: &mut [u8], used: usize) -> Played
 fn power_up(out: &mut [u8], used: usize) -> Played
     ensures { λ r. ⌜ r .used ≤ length (now (out .entry)) ⌝ }
 {
-    let p = line(out, used, b'P', TAKEN);
+    let p = refusal_line(out, used, b'P', TAKEN);
     hand_back(Chip::power_up(), out, p)
 }
 
@@ -112,7 +112,7 @@ fn write(script: &[u8], at: usize, parts: Parts, chip: Chip, out: &mut [u8], use
     ensures { λ r. ⌜ r .used ≤ length (now (out .entry)) ⌝ }
 {
     let written = chip.write(parts.image(script), byte_at(script, at));
-    let p = line(out, used, b'W', written.refusal);
+    let p = refusal_line(out, used, b'W', written.refusal);
     hand_back(written.chip, out, p)
 }
 
@@ -177,7 +177,7 @@ fn tell(script: &[u8], at: usize, parts: Parts, out: &mut [u8], used: usize) -> 
     let n = word_at(script, at + 1);
     match byte_at(script, at) {
         b'I' => image_line(out, used, n),
-        b'V' => line(out, used, b'V', voice_check(parts.voice(script))),
+        b'V' => refusal_line(out, used, b'V', voice_check(parts.voice(script))),
         b'F' => frame_line(out, used, image, n),
         _ => walk_line(out, used, image, n),
     }
