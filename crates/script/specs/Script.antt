@@ -4,7 +4,8 @@ use mathlib.Core.List.{List, []}
 use Prim.Native.Nat.{ℕ, suc, _+_, _*_, _-_, _^_}
 use lib.Dec.{eqb, leb, ltb}
 use lib.IntN.{ℤ, pos, negsuc}
-use lib.ListN.{length, getD, take, drop}
+use lib.ListN.{length, take, drop}
+use Rattle.base.specs.Bytes.{byteAt}
 use Rattle.script.specs.declared.Body.{Body}
 use Rattle.script.specs.declared.Body.the-variants.{Bytes, None}
 use Rattle.script.specs.declared.Record.{Record}
@@ -17,10 +18,6 @@ limit = 1048576
 -- the most samples of a run
 abbrev pub runLimit : ℕ
 runLimit = 8192
-
--- byte i, 0 past the end
-abbrev pub byteAt : List ℕ → ℕ → ℕ
-byteAt s i = getD s i 0
 
 -- the u32 from byte i on, little-endian
 unfoldable pub wordAt : List ℕ → ℕ → ℕ

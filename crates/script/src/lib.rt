@@ -2,20 +2,14 @@
 ghost use mathlib.Core.Path.{_≡_};
 ghost use Prim.Native.Nat.{_+_, _^_, _≤_, _<_, min};
 ghost use lib.ListN.{length};
-ghost use Rattle.script.specs.Script.{limit, runLimit, byteAt, wordAt, signed, longAt, partOf, bodyOf, recordAt};
+ghost use Rattle.script.specs.Script.{limit, runLimit, wordAt, signed, longAt, partOf, bodyOf, recordAt};
+use base::bytes::byte_at;
 
 // The most bytes of a script.
 pub const LIMIT: usize = 1048576;
 
 // The most samples of a run.
 pub const RUN_LIMIT: usize = 8192;
-
-// Byte i of a script; 0 past its end.
-pub fn byte_at(script: &[u8], i: usize) -> u8
-    ensures { λ r. ⌜ r ≡ byteAt (now (script .entry)) i ⌝ }
-{
-    if i < script.len() { script[i] } else { 0 }
-}
 
 // The u32 from byte `at` on, little-endian. That it is below 2^32 follows from the bytes, of which the definition says no range.
 pub fn word_at(script: &[u8], at: usize) -> usize

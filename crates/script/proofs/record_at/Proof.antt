@@ -4,7 +4,8 @@ use borrow.Author.Tests.{le-leb, lt-leb}
 use mathlib.Core.Path.{_≡_, sym, _∙_}
 use Prim.Native.Nat.{_+_, _-_}
 use lib.ListN.{length}
-use Rattle.script.specs.Script.{byteAt, wordAt, bodyOf}
+use Rattle.base.specs.Bytes.{byteAt}
+use Rattle.script.specs.Script.{wordAt, bodyOf}
 use Rattle.script.proofs.record_at.Statement.{statement}
 use Rattle.script.proofs.record_at.Tie as tie
 

@@ -5,7 +5,8 @@ use Prim.Native.Nat.{_+_, _-_, _≤_}
 use native.Mathlib.Omega.{arith}
 use lib.ListN.{length}
 use lib.Seq.{length-take-le}
-use Rattle.script.specs.Script.{byteAt, wordAt, bodyOf}
+use Rattle.base.specs.Bytes.{byteAt}
+use Rattle.script.specs.Script.{wordAt, bodyOf}
 use Rattle.script.proofs.Records.{whole-next}
 use Rattle.trace.proofs.play_all.Statement.{statement}
 use Rattle.trace.proofs.play_all.Tie as tie

@@ -1,9 +1,0 @@
--- `script::byte_at` meets its contract. Assumes nothing.
-use borrow.Author.Needs.{needs}
-use mathlib.Core.Path.{sym}
-use lib.ListN.{List·getD-eq-default}
-use Rattle.script.proofs.byte_at.Statement.{statement}
-use Rattle.script.proofs.byte_at.Tie as tie
-
-pub byte-at-spec : {M : Type 1} → statement M
-byte-at-spec = tie.close (tie.spec (λ c. search needs) (λ c. search needs) (λ c. sym (List·getD-eq-default (c .before .args .script .now) 0 (c .if1 .left))))
