@@ -1,5 +1,5 @@
 -- The reader behind a `&mut`: what the walks of `next_field` and `next_frame` share.
---     Reader, Own      the reader's type at 'a, and what a reader owns
+--     ReaderType, Own  the reader's type at 'a, and what a reader owns
 --     args, vals       the reader's image, its position and a width, as a callee is passed them
 --     opened, closed   the borrow is opened, which tells the ranges of the fields, and closed at another position
 --     called           a call of a covered function on the reader's image, its position and the width. What the reader owns is Copy: one copy goes to the callee, and one is kept
@@ -41,38 +41,38 @@ use denote.Triple.Clauses.{Lasts, lasts}
 use denote.Triple.Entry.{Args, Vals}
 use denote.Triple.Statement.{Contract, Triple}
 use denote.Triple.Walked.{says}
-use Rattle.lent.specs.declared.Lent.{Lent}
-use Rattle.lent.proofs.Lent as T
-use Rattle.lent.proofs.Lent.Laws as T′
+use Rattle.lent.specs.declared.Reader.{Reader}
+use Rattle.lent.proofs.Reader as T
+use Rattle.lent.proofs.Reader.Laws as T′
 use Rattle.rom.proofs.bits.field_at as field-at
 
 -- 'a, and the reader's type at it
 abbrev α : Lft → NamedLft
 α κ = record { mir = named 1; lft = κ }
 
-abbrev pub Reader : Lft → RattleType
-Reader κ = T.the-row (α κ)
+abbrev pub ReaderType : Lft → RattleType
+ReaderType κ = T.the-row (α κ)
 
 -- what a reader owns
-abbrev pub Own : Lft → Lent → Fml
-Own κ h = Reader κ .own h (T′.lowered h ∷ [])
+abbrev pub Own : Lft → Reader → Fml
+Own κ h = ReaderType κ .own h (T′.lowered h ∷ [])
 
 -- the reader at another position, and moved on by n bits
-abbrev pub moved-to : Lent → ℕ → Lent
+abbrev pub moved-to : Reader → ℕ → Reader
 moved-to h m = record { image = h .image; at = m }
 
-abbrev pub moved : Lent → ℕ → Lent
+abbrev pub moved : Reader → ℕ → Reader
 moved h n = moved-to h (h .at + n)
 
--- `Lent<'a>`, as the referent's place in a signature
+-- `Reader<'a>`, as the referent's place in a signature
 abbrev pub behind : Slot 2
 behind = plain (λ κs. T.the-row (namedLft 2 1 tt κs))
 
 -- what a callee is passed that reads at the reader's position, with the width n
-abbrev pub args : (κ : Lft) → Lent → ℕ → Args field-at.signature (κ, tt)
+abbrev pub args : (κ : Lft) → Reader → ℕ → Args field-at.signature (κ, tt)
 args κ h n = (h .image, (h .at, (n, tt)))
 
-abbrev pub vals : (κ : Lft) → Lent → ℕ → Vals field-at.signature (κ, tt)
+abbrev pub vals : (κ : Lft) → Reader → ℕ → Vals field-at.signature (κ, tt)
 vals κ h n = (sliceVal (h .image .ptr) (length (h .image .now)) ∷ [], (vint w64 (h .at) ∷ [], (vint w64 n ∷ [], tt)))
 
 -- the token of 'a
@@ -85,10 +85,10 @@ D κ = T.the-type (α κ)
 abbrev pub L : (κ : Lft) → LL.Laws (D κ)
 L κ = T′.the-laws (α κ)
 
-abbrev parts : (κ : Lft) → Lent → Values (D κ .parts)
+abbrev parts : (κ : Lft) → Reader → Values (D κ .parts)
 parts κ h = (h .image, (h .at, tt))
 
-module _ {M : Type 1} (𝓤 : URA M) (H : Heap 𝓤) (A : Atoms 𝓤) (W : Given 𝓤 H A) (κ : Lft) (q : Share) (h : Lent) (n : ℕ) where
+module _ {M : Type 1} (𝓤 : URA M) (H : Heap 𝓤) (A : Atoms 𝓤) (W : Given 𝓤 H A) (κ : Lft) (q : Share) (h : Reader) (n : ℕ) where
   abbrev Entry : List (Item 𝓤)
   Entry = Token κ q ∷ ‵ (owns (ShrSlice (named 0) κ u8 ∷ usize ∷ usize ∷ []) (args κ h n) (vals κ h n)) ∷ []
 
@@ -121,12 +121,12 @@ module _ {M : Type 1} (𝓤 : URA M) (H : Heap 𝓤) (A : Atoms 𝓤) (W : Given
         calls-at t fm c known to os (λ u. use1 W (Answer X found u) (answers u) $ await t tt $ pick t (λ r. split t $ move t (1 ∷ []) $ pick t (λ ws. split t $ drop t $
         heard t (r ≡ found) (λ e. split t $ move t (1 ∷ []) $ peeks t X (Is X) (shows 𝓤 H A X) r (u ∷ []) (λ is. k u r e is)))))
 
-module _ {M : Type 1} (𝓤 : URA M) (H : Heap 𝓤) (A : Atoms 𝓤) (W : Given 𝓤 H A) (κ κ′ : Lft) (q : Share) (b o : ℕ) (γ : GName) (h : Lent) where
+module _ {M : Type 1} (𝓤 : URA M) (H : Heap 𝓤) (A : Atoms 𝓤) (W : Given 𝓤 H A) (κ κ′ : Lft) (q : Share) (b o : ℕ) (γ : GName) (h : Reader) where
   abbrev R : RattleType
-  R = Reader κ′
+  R = ReaderType κ′
 
   -- a reader in memory, where the reference points
-  abbrev cell : Lent → Fml
+  abbrev cell : Reader → Fml
   cell g = fat fullShare (T′.mir erased) b o (T′.lowered g)
 
   abbrev Open : Fml

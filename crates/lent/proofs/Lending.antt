@@ -1,4 +1,4 @@
--- A reader that lies in a local is lent to `next_field`, and comes back moved on. A caller that makes a `Lent` in a local cites `reads` for each call.
+-- A reader that lies in a local is lent to `next_field`, and comes back moved on. A caller that makes a `Reader` in a local cites `reads` for each call.
 --     NextField    the contract of `next_field`, which is all that is known of it
 --     lends        the reader in memory, what it owns and a token of 'a: for a lifetime ν within 'a, what the call asks, and what the caller keeps meanwhile
 --     comes-back   what the call gives and what was kept: the reader in memory at the next position, what it owns, and the token; and the field's machine value is known
@@ -42,29 +42,29 @@ use denote.Triple.Spec.{tripleOf}
 use denote.Triple.Statement.{Contract, Triple}
 use denote.Triple.Walked.{says}
 use Rattle.rom.specs.Bits.{field}
-use Rattle.lent.specs.declared.Lent.{Lent}
-use Rattle.lent.proofs.Held.{D, L, Reader, Own, moved}
-use Rattle.lent.proofs.Lent as T
-use Rattle.lent.proofs.Lent.Laws as T′
+use Rattle.lent.specs.declared.Reader.{Reader}
+use Rattle.lent.proofs.Held.{D, L, ReaderType, Own, moved}
+use Rattle.lent.proofs.Reader as T
+use Rattle.lent.proofs.Reader.Laws as T′
 use Rattle.lent.proofs.next_field.Symbol.{name as #next-field}
 use Rattle.lent.proofs.next_field as next-field
 
 -- the reader in memory at the block b, as a local has it
-abbrev pub lies : ℕ → Lent → Fml
+abbrev pub lies : ℕ → Reader → Fml
 lies b h = fat fullShare (T′.mir erased) b 0 (T′.lowered h)
 
 module _ {M : Type 1} (𝓤 : URA M) (H : Heap 𝓤) (A : Atoms 𝓤) (at-mem : Memory → SProp 𝓤) (run : Routine → Fun 𝓤) where
   abbrev pub NextField : Contract 𝓤
   NextField = tripleOf 𝓤 H A next-field.signature (next-field.spec 𝓤 H A at-mem run)
 
-  module _ (W : Given 𝓤 H A) (κ : Lft) (q : Share) (b : ℕ) (h : Lent) (n : ℕ) where
+  module _ (W : Given 𝓤 H A) (κ : Lft) (q : Share) (b : ℕ) (h : Reader) (n : ℕ) where
     abbrev R : RattleType
-    R = Reader κ
+    R = ReaderType κ
 
     abbrev found : ℕ
     found = field (now (h .image)) (h .at) n
 
-    abbrev x : GName → RefT Lent × (ℕ × Unit {0})
+    abbrev x : GName → RefT Reader × (ℕ × Unit {0})
     x δ = (record { ptr = (b, 0); name = δ; now = h }, (n, tt))
 
     abbrev vals : List Val × (List Val × Unit {0})
@@ -102,7 +102,7 @@ module _ {M : Type 1} (𝓤 : URA M) (H : Heap 𝓤) (A : Atoms 𝓤) (at-mem : 
         show ! (λ (ν′ : ℕ). ex 𝓤 (λ (δ′ : GName). sep 𝓤 (Asked ν′ δ′) (Kept ν′ δ′))) ν $ show ! (λ (δ′ : GName). sep 𝓤 (Asked ν δ′) (Kept ν δ′)) δ $ done !))
 
     -- the clause, at the last value of the reader that was lent
-    abbrev Clause : ℕ → Lent → Type 0
+    abbrev Clause : ℕ → Reader → Type 0
     Clause r z = (r ≡ found) × (z .image ≡ h .image) × (z .at ≡ h .at + n)
 
     abbrev Known : Val → Type 0
@@ -114,9 +114,9 @@ module _ {M : Type 1} (𝓤 : URA M) (H : Heap 𝓤) (A : Atoms 𝓤) (at-mem : 
     comes-back ν δ u =
         qed W (later (some (λ (r : ℕ). ((‵ (flft (ν ∷ κ) (PosShare·left q)) ⊛ ‵ (flft κ (PosShare·right q)) ⊛ ‵ ftrue) ⊛ ‵ (u8 .own r (u ∷ []))) ⊛ raw (ensured 𝓤 H A next-field.ended (next-field.clauses 𝓤 H A at-mem run) (ν ∷ κ, (κ, tt)) (x δ) tt r))) ∷ (raw (Rest 𝓤 H A W ν (PosShare·left q)) ⊛ ‵ (flent (ν ∷ κ) (Body (mem R) b 0 δ))) ∷ []) ∵
         updating ! $ await ! tt $ pick ! (λ r. split ! $ move ! (1 ∷ []) $
-        use1 W (some (λ (ws : Lent × (Unit {0} × Unit {0})). ‵ (lasts next-field.ended (ν ∷ κ, (κ, tt)) (x δ) ws) ⊛ raw (fact 𝓤 (Clause r (ws .0))))) (id⊢ 𝓤 _) $ pick ! (λ ws.
+        use1 W (some (λ (ws : Reader × (Unit {0} × Unit {0})). ‵ (lasts next-field.ended (ν ∷ κ, (κ, tt)) (x δ) ws) ⊛ raw (fact 𝓤 (Clause r (ws .0))))) (id⊢ 𝓤 _) $ pick ! (λ ws.
         split ! $ move ! (1 ∷ []) $ heard ! (Clause r (ws .0)) (λ e. fsplit ! $
-        rewrite ! 0 (λ (z : Lent). ‵ (fres δ (R .coded .code z))) (λ i. record { image = e .1 i; at = e .2 i }) refl $ move ! (2 ∷ []) $ split ! $ move ! (1 ∷ []) $ facts ! u8 (Is u8) (shows 𝓤 H A u8) r (u ∷ []) (λ is. split3 ! $
+        rewrite ! 0 (λ (z : Reader). ‵ (fres δ (R .coded .code z))) (λ i. record { image = e .1 i; at = e .2 i }) refl $ move ! (2 ∷ []) $ split ! $ move ! (1 ∷ []) $ facts ! u8 (Is u8) (shows 𝓤 H A u8) r (u ∷ []) (λ is. split3 ! $
         -- [the token of ν within 'a; the other half of 'a's; …; the last value; …; what was kept]
         move ! (5 ∷ []) $ split ! $ move ! (2 ∷ 0 ∷ []) $ use2 W (later (‵ (fdead (ν ∷ κ)) ⊛ ‵ (flft κ (PosShare·left q)))) (within-end 𝓤 H A W ν κ (PosShare·left q)) $ await ! tt $ split ! $
         move ! (1 ∷ 3 ∷ []) $ use2 W (‵ (flft κ q)) (W .lfts .lft-join κ q) $

@@ -11,13 +11,14 @@ use rom::head::Head;
 use rom::reader::Taken;
 use rom::reader::frame_at;
 
-pub struct Lent<'a> {
+// The lent image, and the bit that the reader has come to.
+pub struct Reader<'a> {
     pub image: &'a [u8],
     pub at: usize,
 }
 
 // The field of a width at the position, which moves on past it.
-pub fn next_field<'s, 'a>(r: &'s mut Lent<'a>, width: usize) -> u8
+pub fn next_field<'s, 'a>(r: &'s mut Reader<'a>, width: usize) -> u8
     requires { ⌜ (width ≤ 8) × (now r .at ≤ 2 ^ 32) ⌝ }
     ensures { λ v. ⌜ (v ≡ field (now (now (r .entry) .image)) (now (r .entry) .at) width)
         × (now (r .exit) .image ≡ now (r .entry) .image)
@@ -42,7 +43,7 @@ fn bit_after(s: &[u8], at: usize, pitch_bits: usize) -> usize
 }
 
 // The frame at the position, which moves on past it where the frame is whole.
-pub fn next_frame<'s, 'a>(r: &'s mut Lent<'a>, pitch_bits: usize) -> Taken
+pub fn next_frame<'s, 'a>(r: &'s mut Reader<'a>, pitch_bits: usize) -> Taken
     requires { ⌜ («pitch_bits» ≤ 8) × (now r .at < 2 ^ 32 - 64) × (length (now (now r .image)) < 2 ^ 32) ⌝ }
     ensures { λ t. ⌜ (t ≡ frameAt «pitch_bits» (now (now (r .entry) .image)) (now (r .entry) .at))
         × (now (r .exit) .image ≡ now (r .entry) .image)
@@ -64,7 +65,7 @@ pub fn head_fields(image: &[u8], at: usize, pitch_bits: usize) -> Head
     ensures { λ r. ⌜ (r .energy ≡ field (now (image .entry)) at 4) × (r .repeat ≡ field (now (image .entry)) (at + 4) 1)
         × (r .pitch ≡ field (now (image .entry)) (at + 5) «pitch_bits») ⌝ }
 {
-    let mut r = Lent { image, at };
+    let mut r = Reader { image, at };
     let energy = next_field(&mut r, 4);
     let repeat = next_field(&mut r, 1);
     let pitch = next_field(&mut r, pitch_bits);

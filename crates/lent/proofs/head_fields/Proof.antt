@@ -37,13 +37,13 @@ use denote.Triple.Walked.{says, needs, Stays, stay-none, stay-none-slice, walkOf
 use denote.Exit.{yes}
 use Rattle.rom.specs.Bits.{field}
 use Rattle.rom.specs.declared.head.Head.{Head}
-use Rattle.lent.specs.declared.Lent.{Lent}
+use Rattle.lent.specs.declared.Reader.{Reader}
 use Rattle.lent.proofs.Held.{Own, moved}
 use Rattle.lent.proofs.Lending.{NextField, reads}
 use Rattle.rom.proofs.head.Head as Made
 use Rattle.rom.proofs.head.Head.Laws as Made′
-use Rattle.lent.proofs.Lent as T
-use Rattle.lent.proofs.Lent.Laws as T′
+use Rattle.lent.proofs.Reader as T
+use Rattle.lent.proofs.Reader.Laws as T′
 use Rattle.lent.proofs.next_field.Symbol as next-field-def
 use Rattle.lent.proofs.next_field.Symbol.{name as #next-field}
 use Rattle.lent.proofs.next_field.Met as next-field-thm
@@ -67,13 +67,13 @@ module _ {M : Type 1} (𝓤 : URA M) (H : Heap 𝓤) (A : Atoms 𝓤) (W : Given
   vals = (v ∷ [], (vint w64 m ∷ [], (vint w64 n ∷ [], tt)))
 
   -- the reader before each call
-  abbrev h₀ : Lent
+  abbrev h₀ : Reader
   h₀ = record { image = s; at = m }
 
-  abbrev h₁ : Lent
+  abbrev h₁ : Reader
   h₁ = moved h₀ 4
 
-  abbrev h₂ : Lent
+  abbrev h₂ : Reader
   h₂ = moved h₁ 1
 
   abbrev made : Head

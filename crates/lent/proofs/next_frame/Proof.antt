@@ -39,8 +39,8 @@ use denote.Exit.{yes}
 use Rattle.rom.specs.Reader.{frameAt}
 use Rattle.lent.specs.After.{bitAfter}
 use Rattle.rom.specs.declared.reader.Taken.{Taken}
-use Rattle.lent.specs.declared.Lent.{Lent}
-use Rattle.lent.proofs.Held.{Reader, Token, behind, moved-to, args, vals, asked, opened, called, closed}
+use Rattle.lent.specs.declared.Reader.{Reader}
+use Rattle.lent.proofs.Held.{ReaderType, Token, behind, moved-to, args, vals, asked, opened, called, closed}
 use Rattle.rom.proofs.reader.Taken as S
 use Rattle.rom.proofs.reader.Taken.Laws as S′
 use Rattle.rom.proofs.reader.frame_at as frame-at
@@ -67,8 +67,8 @@ module _ {M : Type 1} (𝓤 : URA M) (H : Heap 𝓤) (A : Atoms 𝓤) (mem : Mem
   abbrev BitAfter : Contract 𝓤
   BitAfter = tripleOf 𝓤 H A bit-after.signature (bit-after.spec 𝓤 H A mem run)
 
-module _ {M : Type 1} (𝓤 : URA M) (H : Heap 𝓤) (A : Atoms 𝓤) (W : Given 𝓤 H A) (at-mem : Memory → SProp 𝓤) (run : Routine → Fun 𝓤) (κ κ′ : Lft) (q q′ : Share) (bounds : AllOutlive 2 (next-frame.signature .outlives) (κ, (κ′, tt))) (b o : ℕ) (γ : GName) (h : Lent) (n : ℕ) (ok : (n ≤ 8) × (h .at < 2 ^ 32 - 64) × (length (now (h .image)) < 2 ^ 32)) where
-  abbrev x : RefT Lent × (ℕ × Unit {0})
+module _ {M : Type 1} (𝓤 : URA M) (H : Heap 𝓤) (A : Atoms 𝓤) (W : Given 𝓤 H A) (at-mem : Memory → SProp 𝓤) (run : Routine → Fun 𝓤) (κ κ′ : Lft) (q q′ : Share) (bounds : AllOutlive 2 (next-frame.signature .outlives) (κ, (κ′, tt))) (b o : ℕ) (γ : GName) (h : Reader) (n : ℕ) (ok : (n ≤ 8) × (h .at < 2 ^ 32 - 64) × (length (now (h .image)) < 2 ^ 32)) where
+  abbrev x : RefT Reader × (ℕ × Unit {0})
   x = (record { ptr = (b, o); name = γ; now = h }, (n, tt))
 
   abbrev found : Taken
@@ -89,9 +89,9 @@ module _ {M : Type 1} (𝓤 : URA M) (H : Heap 𝓤) (A : Atoms 𝓤) (W : Given
   abbrev to-bit-after : BitAfter 𝓤 H A at-mem run .Ghost
   to-bit-after = (((κ′, tt), (q′, tt), tt, args κ′ h n, vals κ′ h n), tt)
 
-  exits : n < 2 ^ 64 → (r : Taken) (u : Val) (m : ℕ) → r ≡ found → m ≡ after → ent 𝓤 (⋆ 𝓤 H A (‵ (fobs γ (Reader κ′ .coded .code (moved-to h m))) ∷ ‵ (fbor κ (Body (mem (Reader κ′)) b o γ)) ∷ ‵ (flft κ q) ∷ Token κ′ q′ ∷ ‵ (S.the-row .own r (u ∷ [])) ∷ [])) (Post u)
+  exits : n < 2 ^ 64 → (r : Taken) (u : Val) (m : ℕ) → r ≡ found → m ≡ after → ent 𝓤 (⋆ 𝓤 H A (‵ (fobs γ (ReaderType κ′ .coded .code (moved-to h m))) ∷ ‵ (fbor κ (Body (mem (ReaderType κ′)) b o γ)) ∷ ‵ (flft κ q) ∷ Token κ′ q′ ∷ ‵ (S.the-row .own r (u ∷ [])) ∷ [])) (Post u)
   exits fits r u m e f =
-      qed W (‵ (fobs γ (Reader κ′ .coded .code (moved-to h m))) ∷ ‵ (fbor κ (Body (mem (Reader κ′)) b o γ)) ∷ ‵ (flft κ q) ∷ Token κ′ q′ ∷ ‵ (S.the-row .own r (u ∷ [])) ∷ []) ∵
+      qed W (‵ (fobs γ (ReaderType κ′ .coded .code (moved-to h m))) ∷ ‵ (fbor κ (Body (mem (ReaderType κ′)) b o γ)) ∷ ‵ (flft κ q) ∷ Token κ′ q′ ∷ ‵ (S.the-row .own r (u ∷ [])) ∷ []) ∵
       suffices ! _ (ends-at 𝓤 H A next-frame.ended stayed (next-frame.clauses 𝓤 H A at-mem run) W (((κ, (κ′, tt)), (q, (q′, tt)), bounds, x, at), tt) u r (moved-to h m, (tt, tt)) (tt, (tt, tt))) $ says ! (e, refl, f) $
       move ! (2 ∷ 3 ∷ []) $ join ! $
       frame ! $ feqI ! (List Val) (vptr b o ∷ []) (vptr b o ∷ []) refl $ fjoin3 ! $ nothing ! $ owned ! usize (Is usize) (uint-makes 𝓤 H A W w64) n _ (refl, fits) $ fjoin ! $ move ! (1 ∷ 0 ∷ []) $ fjoin ! $ done !
@@ -99,7 +99,7 @@ module _ {M : Type 1} (𝓤 : URA M) (H : Heap 𝓤) (A : Atoms 𝓤) (W : Given
   module _ (C : Calls 𝓤 H) (Λ : Loops 𝓤 H) (fm : FmC 𝓤 H (W .laws) C) (known : Triple 𝓤 (C #frame-at) (FrameAt 𝓤 H A at-mem run)) (known-after : Triple 𝓤 (C #bit-after) (BitAfter 𝓤 H A at-mem run)) where
     walk : n < 2 ^ 64 → ent 𝓤 (onEntry 𝓤 H A next-frame.signature (κ, (κ′, tt)) (q, (q′, tt)) x at) (WpFn 𝓤 H C Λ code.function (vptr b o ∷ vint w64 n ∷ []) Post)
     walk gn =
-        qed W ((‵ (flft κ q) ⊛ ‵ (flft κ′ q′) ⊛ ‵ ftrue) ∷ ‵ (owns (MutRef (named 0) κ (Reader κ′) ∷ usize ∷ []) x at) ∷ []) ∵ enter ! C Λ code.function (vptr b o ∷ vint w64 n ∷ []) _ $
+        qed W ((‵ (flft κ q) ⊛ ‵ (flft κ′ q′) ⊛ ‵ ftrue) ∷ ‵ (owns (MutRef (named 0) κ (ReaderType κ′) ∷ usize ∷ []) x at) ∷ []) ∵ enter ! C Λ code.function (vptr b o ∷ vint w64 n ∷ []) _ $
         alloc1 ! (λ l₀. alloc1 ! (λ l₁. alloc1 ! (λ l₂. alloc1 ! (λ l₃. alloc1 ! (λ l₄. alloc1 ! (λ l₅. alloc1 ! (λ l₆. alloc0 ! $ params1 ! $ pass1 ! (init ! 10 refl (tt, tt)) $ pass1 ! (init ! 8 refl (tt, record { fits = gn })) $ pass0 ! $
         -- the borrow is opened
         move ! (15 ∷ []) $ fsplit ! $ fsplit3 ! $ drop ! $ move ! (17 ∷ []) $ split ! $ move ! (2 ∷ 3 ∷ 0 ∷ []) $
@@ -126,7 +126,7 @@ module _ {M : Type 1} (𝓤 : URA M) (H : Heap 𝓤) (A : Atoms 𝓤) (W : Given
 
 module _ {M : Type 1} (𝓤 : URA M) (H : Heap 𝓤) (A : Atoms 𝓤) (W : Given 𝓤 H A) (mem : Memory → SProp 𝓤) (run : Routine → Fun 𝓤) where
   next-frame-walks : (C : Calls 𝓤 H) (Λ : Loops 𝓤 H) → FmC 𝓤 H (W .laws) C → Triple 𝓤 (C #frame-at) (FrameAt 𝓤 H A mem run) → Triple 𝓤 (C #bit-after) (BitAfter 𝓤 H A mem run) → Walks 𝓤 H A next-frame.ended stayed (WpFn 𝓤 H C Λ code.function) (next-frame.clauses 𝓤 H A mem run)
-  next-frame-walks C Λ fm known known-after = walked 𝓤 H A next-frame.ended stayed (next-frame.clauses 𝓤 H A mem run) (WpFn 𝓤 H C Λ code.function) (λ κs. (ptr-vals, (uint-vals w64, tt))) (λ κs. (mut-tells (named 0) (κs .0) (Reader (κs .1 .0)), (uint-tells w64, tt)))
+  next-frame-walks C Λ fm known known-after = walked 𝓤 H A next-frame.ended stayed (next-frame.clauses 𝓤 H A mem run) (WpFn 𝓤 H C Λ code.function) (λ κs. (ptr-vals, (uint-vals w64, tt))) (λ κs. (mut-tells (named 0) (κs .0) (ReaderType (κs .1 .0)), (uint-tells w64, tt)))
       (λ κs qs bounds a _ are. needs 𝓤 _ _ (λ ok. walk 𝓤 H A W mem run (κs .0) (κs .1 .0) (qs .0) (qs .1 .0) bounds (a .0 .ptr .0) (a .0 .ptr .1) (a .0 .name) (a .0 .now) (a .1 .0) ok C Λ fm known known-after (are .1 .0 .1)))
 
 next-frame-meets : {M : Type 1} (𝓤 : URA M) (H : Heap 𝓤) (A : Atoms 𝓤) → Given 𝓤 H A → (mem : Memory → SProp 𝓤) (run : Routine → Fun 𝓤) (𝓣 : Tables 𝓤 H)
