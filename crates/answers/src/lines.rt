@@ -15,6 +15,7 @@ use rom::frames::numbers;
 use rom::phrases::phrase;
 use rom::phrases::walk;
 use rom::reader::frame_taken;
+use voice::checks::voice_check;
 
 // A letter and a refusal number, with which the answer of a call begins.
 fn head(out: &mut [u8], at: usize, letter: u8, refusal: u8) -> usize
@@ -25,7 +26,7 @@ fn head(out: &mut [u8], at: usize, letter: u8, refusal: u8) -> usize
 }
 
 // `I`: the size of an image.
-pub fn image_line(out: &mut [u8], at: usize, size: usize) -> usize
+fn image_line(out: &mut [u8], at: usize, size: usize) -> usize
     ensures { λ r. ⌜ r ≤ length (now (out .entry)) ⌝ }
 {
     let p = put(out, at, b'I');
@@ -52,7 +53,7 @@ fn frame(out: &mut [u8], at: usize, found: Found) -> usize
 }
 
 // `F`: a frame taken at a bit of an image.
-pub fn frame_line(out: &mut [u8], at: usize, image: &[u8], bit: usize) -> usize
+fn frame_line(out: &mut [u8], at: usize, image: &[u8], bit: usize) -> usize
     ensures { λ r. ⌜ r ≤ length (now (out .entry)) ⌝ }
 {
     let taken = frame_taken(image, bit);
@@ -84,7 +85,7 @@ fn walked(out: &mut [u8], at: usize, image: &[u8], address: usize) -> usize
 }
 
 // `A`: a walk of an image from a byte address, with the length of its part and the sum of the part's bytes.
-pub fn walk_line(out: &mut [u8], at: usize, image: &[u8], address: usize) -> usize
+fn walk_line(out: &mut [u8], at: usize, image: &[u8], address: usize) -> usize
     ensures { λ r. ⌜ r ≤ length (now (out .entry)) ⌝ }
 {
     let part = phrase(image, address);
@@ -92,6 +93,25 @@ pub fn walk_line(out: &mut [u8], at: usize, image: &[u8], address: usize) -> usi
     let p = natural(out, p, part.len() as u64);
     let p = natural(out, p, sum(part));
     put(out, p, b'\n')
+}
+
+// The answer to a record that asks nothing of a chip, `I`, `V`, `F` or `A`, with its u32.
+pub fn told_line(
+    out: &mut [u8],
+    at: usize,
+    letter: u8,
+    n: usize,
+    image: &[u8],
+    voice: &[u8],
+) -> usize
+    ensures { λ r. ⌜ r ≤ length (now (out .entry)) ⌝ }
+{
+    match letter {
+        b'I' => image_line(out, at, n),
+        b'V' => refusal_line(out, at, b'V', voice_check(voice)),
+        b'F' => frame_line(out, at, image, n),
+        _ => walk_line(out, at, image, n),
+    }
 }
 
 // `R`: a byte read.

@@ -20,26 +20,18 @@ use script::record_at;
 // than 59,000 bytes, so that none is cut: at most 8,192 samples of 7 bytes, 63 numbers of 21 bytes, and some 20 bytes more.
 const WAITING: usize = 6000;
 
-// What is left in the buffer, and whether writing failed.
-struct Relieved {
-    failed: bool,
-    used: usize,
-}
-
-fn relieve(out: &[u8], used: usize) -> Relieved
+// Writes the buffer out where it is time. The answer is how much of it is still used: all, where writing failed.
+fn relieve(out: &[u8], used: usize) -> usize
     requires { ⌜ used ≤ length (now out) ⌝ }
-    ensures { λ r. ⌜ r .used ≤ length (now (out .entry)) ⌝ }
+    ensures { λ r. ⌜ r ≤ length (now (out .entry)) ⌝ }
 {
     if used <= WAITING {
-        return Relieved {
-            failed: false,
-            used,
-        };
+        return used;
     }
-    let written = io::write_all(STDOUT_FILENO, &out[..used]);
-    Relieved {
-        failed: !written,
-        used: 0,
+    if io::write_all(STDOUT_FILENO, &out[..used]) {
+        0
+    } else {
+        used
     }
 }
 
@@ -71,12 +63,11 @@ fn play_all(script: &[u8], out: &mut [u8]) -> bool
         };
         parts = parts.after(script, at);
         let played = play(script, at, parts, chip, out, used);
-        let relieved = relieve(out, played.used);
-        if relieved.failed {
+        used = relieve(out, played.used);
+        if used > WAITING {
             return false;
         }
         chip = played.chip;
-        used = relieved.used;
         at = next;
     }
     io::write_all(STDOUT_FILENO, &out[..used])

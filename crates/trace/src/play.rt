@@ -4,13 +4,11 @@ ghost use lib.ListN.{length};
 ghost use Rattle.script.specs.Script.{limit};
 use answers::lines::UNTOUCHED;
 use answers::lines::chip_line;
-use answers::lines::frame_line;
-use answers::lines::image_line;
 use answers::lines::read_line;
 use answers::lines::refusal_line;
 use answers::lines::run_line;
 use answers::lines::step_line;
-use answers::lines::walk_line;
+use answers::lines::told_line;
 use base::bytes::byte_at;
 use base::refusal::TAKEN;
 use chip::state::Chip;
@@ -20,7 +18,6 @@ use script::long_at;
 use script::part;
 use script::run_length;
 use script::word_at;
-use voice::checks::voice_check;
 
 // The image and the voice file, as parts of the script: from a byte on up to another.
 pub struct Parts {
@@ -31,14 +28,6 @@ pub struct Parts {
 }
 
 impl Parts {
-    fn image(self, script: &[u8]) -> &[u8] {
-        part(script, self.image, self.image_end)
-    }
-
-    fn voice(self, script: &[u8]) -> &[u8] {
-        part(script, self.voice, self.voice_end)
-    }
-
     // `I` and `V`: what follows the u32 of the record that begins with byte `at` is now the image, or the voice file.
     pub fn after(self, script: &[u8], at: usize) -> Parts
         requires { ⌜ at < limit ⌝ }
@@ -111,7 +100,8 @@ fn set(script: &[u8], at: usize, out: &mut [u8], used: usize) -> Played
 fn write(script: &[u8], at: usize, parts: Parts, chip: Chip, out: &mut [u8], used: usize) -> Played
     ensures { λ r. ⌜ r .used ≤ length (now (out .entry)) ⌝ }
 {
-    let written = chip.write(parts.image(script), byte_at(script, at));
+    let image = part(script, parts.image, parts.image_end);
+    let written = chip.write(image, byte_at(script, at));
     let p = refusal_line(out, used, b'W', written.refusal);
     hand_back(written.chip, out, p)
 }
@@ -129,7 +119,9 @@ fn read(chip: Chip, out: &mut [u8], used: usize) -> Played
 fn step(script: &[u8], parts: Parts, chip: Chip, out: &mut [u8], used: usize) -> Played
     ensures { λ r. ⌜ r .used ≤ length (now (out .entry)) ⌝ }
 {
-    let stepped = chip.step(parts.image(script), parts.voice(script));
+    let image = part(script, parts.image, parts.image_end);
+    let voice = part(script, parts.voice, parts.voice_end);
+    let stepped = chip.step(image, voice);
     let told = stepped.report;
     let p = step_line(
         out,
@@ -153,7 +145,9 @@ fn run_into(
 ) -> Played
     ensures { λ r. ⌜ r .used ≤ length (now (out .entry)) ⌝ }
 {
-    let ran = chip.run(parts.image(script), parts.voice(script), values);
+    let image = part(script, parts.image, parts.image_end);
+    let voice = part(script, parts.voice, parts.voice_end);
+    let ran = chip.run(image, voice, values);
     let p = run_line(out, used, ran.refusal, values);
     hand_back(ran.chip, out, p)
 }
@@ -168,19 +162,21 @@ fn run(script: &[u8], at: usize, parts: Parts, chip: Chip, out: &mut [u8], used:
     run_into(script, parts, chip, &mut values[..n], out, used)
 }
 
-// The answers of the records that leave the chip as it is: `I`, `V`, `F` and `A`.
+// The records that leave the chip as it is.
 fn tell(script: &[u8], at: usize, parts: Parts, out: &mut [u8], used: usize) -> usize
     requires { ⌜ at < limit ⌝ }
     ensures { λ r. ⌜ r ≤ length (now (out .entry)) ⌝ }
 {
-    let image = parts.image(script);
-    let n = word_at(script, at + 1);
-    match byte_at(script, at) {
-        b'I' => image_line(out, used, n),
-        b'V' => refusal_line(out, used, b'V', voice_check(parts.voice(script))),
-        b'F' => frame_line(out, used, image, n),
-        _ => walk_line(out, used, image, n),
-    }
+    let image = part(script, parts.image, parts.image_end);
+    let voice = part(script, parts.voice, parts.voice_end);
+    told_line(
+        out,
+        used,
+        byte_at(script, at),
+        word_at(script, at + 1),
+        image,
+        voice,
+    )
 }
 
 // Plays the record that begins with byte `at`. A record has been seen to be whole before.
