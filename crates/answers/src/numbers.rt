@@ -1,5 +1,5 @@
 // Bytes and numbers in a buffer. Each function puts something into the buffer from index `at` on and answers the index behind it;
-// what finds no room is dropped, so that none of them asks for room.
+// what finds no room is dropped. Those that put several things begin at an index within the buffer.
 ghost use mathlib.Core.Path.{_≡_};
 ghost use Prim.Native.Nat.{_≤_};
 ghost use lib.IntN.{natAbs};
