@@ -2,14 +2,15 @@
 -- Assumes nothing.
 use mathlib.Core.Path.{_≡_, refl, sym, _∙_}
 use mathlib.Core.Bool.{Bool, true, false, not}
-use mathlib.Core.List.{List}
+use mathlib.Core.List.{List, [], _∷_}
 use Prim.Native.Nat.{ℕ, _*_, _/_, _≤_, _<_}
 use native.Mathlib.Omega.{arith}
 use borrow.Author.Tests.{le-leb, lt-leb, leb-true, ltb-true, leb-false, not-false}
 use lib.Dec.{leb, ltb}
 use lib.ListN.{length}
+use Rattle.base.specs.Refusals.{IMAGE, BEYOND}
 use Rattle.base.proofs.Booleans.{both-true}
-use Rattle.base.proofs.Faults.{none-first}
+use Rattle.base.proofs.Faults.{none-applies}
 use Rattle.rom.specs.Bits.{imageLimit, imageValid, imageFault}
 
 -- what an image without fault 3 is
@@ -22,8 +23,8 @@ module _ (s : List ℕ) {b : Bool} {n : ℕ} (e : n ≡ imageFault s b) (h : n �
   -- a call without a fault has a valid image and a place that is not beyond its end
   pub no-fault : (imageValid s ≡ true) × (b ≡ false)
   no-fault =
-      let i = none-first (not (imageValid s)) 2 _ (sym e ∙ h) in
-      (not-false _ (i .0), none-first b 1 0 (i .1) .0)
+      let r = none-applies ((not (imageValid s), IMAGE) ∷ (b, BEYOND) ∷ []) tt (sym e ∙ h) in
+      (not-false _ (r .0), r .1 .0)
 
 -- the same where the place is an address
 pub in-image : (s : List ℕ) (a : ℕ) {n : ℕ} → n ≡ imageFault s (leb (length s) a) → n ≡ 0 → (a < length s) × (length s ≤ imageLimit)

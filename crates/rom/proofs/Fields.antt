@@ -3,9 +3,9 @@
 use mathlib.Core.Path.{_≡_}
 use mathlib.Core.List.{List}
 use Prim.Native.Nat.{ℕ, zero, suc, _+_, _*_, _/_, _%_, _^_, _≤_, _<_}
-use native.Mathlib.Nat.{pow-suc, pow-le-pow-right, add-zero, add-suc, mul-assoc}
+use native.Mathlib.Nat.{pow-suc, add-zero, add-suc, mul-assoc, zero-div}
 use native.Mathlib.Omega.{arith}
-use lib.Dec.{lit<}
+use lib.ListN.{length, List·getD-eq-default}
 use lib.Pow.{high, low}
 use Rattle.rom.specs.Bits.{bit, field}
 
@@ -18,9 +18,13 @@ unfolding field
 field-lt s at zero = omega arith
 field-lt s at (suc w) = omega (arith, pow-suc 2 w, field-lt s at w, bit-lt s (at + w))
 
--- a field of at most k bits
-pub field-below : (s : List ℕ) (at : ℕ) {w k : ℕ} → w ≤ k → field s at w < 2 ^ k
-field-below s at {w} {k} h = omega (arith, field-lt s at w, pow-le-pow-right {n = 2} (lit< tt) h)
+-- past the end a field is 0
+pub field-none : (s : List ℕ) (at w : ℕ) → 8 * length s ≤ at → field s at w ≡ 0
+unfolding bit field
+field-none s at zero h = omega arith
+field-none s at (suc w) h =
+    let l : length s ≤ (at + w) / 8 = omega arith in
+    rw (field-none s at w h, List·getD-eq-default s 0 l, zero-div)
 
 -- a field of a + b bits is its first a bits, and the b bits after them
 pub field-split : (s : List ℕ) (at a b : ℕ) → field s at (a + b) ≡ field s at a * 2 ^ b + field s (at + a) b
@@ -36,7 +40,7 @@ pub field-first : (s : List ℕ) (at a b : ℕ) → field s at (a + b) / 2 ^ b �
 field-first s at a b = rw (field-split s at a b) (high (field s at a) b (field-lt s (at + a) b))
 
 -- its last b bits
-pub field-last : (s : List ℕ) (at a b : ℕ) → field s at (a + b) % 2 ^ b ≡ field s (at + a) b
+field-last : (s : List ℕ) (at a b : ℕ) → field s at (a + b) % 2 ^ b ≡ field s (at + a) b
 field-last s at a b = rw (field-split s at a b) (low (field s at a) b (field-lt s (at + a) b))
 
 -- the w bits after its first a and before its last b

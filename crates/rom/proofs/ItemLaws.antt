@@ -8,14 +8,14 @@ use mathlib.Core.List.{List, [], _∷_, _++_}
 use Prim.Native.Nat.{ℕ, zero, suc, _+_, _*_, _≤_}
 use native.Mathlib.Omega.{arith}
 use lib.ListN.{length, length-append}
-use Rattle.rom.specs.Items.{Code, Read, whole, cut, Lawful, bitsAll, Encoded, Ended, last, more, Phrase, There, phrase, none, itemsOf, itemsFrom, hasStop}
+use Rattle.rom.specs.Items.{Code, ItemAnswer, whole, cut, Lawful, bitsAll, Encoded, Ended, last, more, Phrase, There, phrase, none, itemsOf, itemsFrom, hasStop}
 use Rattle.rom.proofs.Encoding.{begins-room, begins-join, begins-split}
 
 pub has-stop : {C : Code} {fs : List (C .Item)} → Ended C fs → hasStop C fs ≡ true
 has-stop (last t) = rw t
 has-stop (more t d) = rw t (has-stop d)
 
-module _ (C : Code) (s : List ℕ) (read : ℕ → Read (C .Item)) (lawful : Lawful C s read) where
+module _ (C : Code) (s : List ℕ) (read : ℕ → ItemAnswer (C .Item)) (lawful : Lawful C s read) where
   next-in : (at : ℕ) {f : C .Item} {n : ℕ} → read at ≡ whole f n → n ≤ 8 * length s
   next-in at {f} {n} e = let r = lawful .law at f n .0 e in omega (arith, r .2, begins-room s at (C .bits f) (r .1))
 
@@ -53,7 +53,7 @@ module _ (C : Code) (s : List ℕ) (read : ℕ → Read (C .Item)) (lawful : Law
       by-stop e true t = stop e t
       by-stop e false t = item e t
 
-      go : (r : Read (C .Item)) → read at ≡ r → Step at n (itemsOf C r (λ next. itemsFrom C read next n))
+      go : (r : ItemAnswer (C .Item)) → read at ≡ r → Step at n (itemsOf C r (λ next. itemsFrom C read next n))
       go cut e = nothing e
       go (whole f m) e = by-stop e (C .stops f) refl
 
@@ -107,7 +107,7 @@ module _ (C : Code) (s : List ℕ) (read : ℕ → Read (C .Item)) (lawful : Law
   append-nothing [] (t ∷ ts) h = absurd (omega arith)
   append-nothing (f ∷ fs) ts h = ap {B = List (C .Item)} (λ l. f ∷ l) (append-nothing fs ts (omega arith))
 
-  module _ (at : ℕ) (held : at ≤ 8 * length s) where
+  module _ (at : ℕ) (room : at ≤ 8 * length s) where
     -- all items that are read from a bit of the image on
     abbrev all : List (C .Item)
     all = itemsFrom C read at (8 * length s)
@@ -117,7 +117,7 @@ module _ (C : Code) (s : List ℕ) (read : ℕ → Read (C .Item)) (lawful : Law
     phrase-found fs = (
       λ h. (phrase-read (h .ended) (8 * length s) at (enough at (h .encoded)) (h .encoded), has-stop (h .ended)),
       λ h. subst (Phrase C s at) (h .0)
-          (record { encoded = read-encoded (8 * length s) at held; ended = read-ended (8 * length s) at (rw (← h .0) at (h .1)) }),
+          (record { encoded = read-encoded (8 * length s) at room; ended = read-ended (8 * length s) at (rw (← h .0) at (h .1)) }),
     )
 
     -- the items there are those that are read
@@ -132,14 +132,14 @@ module _ (C : Code) (s : List ℕ) (read : ℕ → Read (C .Item)) (lawful : Law
         are (phrase p) = phrase-found fs .0 p .0
         are (none n l) =
             let b = beginning fs (8 * length s) at (enough at (l .encoded)) (l .encoded) (no-stop n (hasStop C all) refl) in
-            b .1 ∙ append-nothing fs (b .0) (rw (b .1) at (l .longest all (read-encoded (8 * length s) at held)))
+            b .1 ∙ append-nothing fs (b .0) (rw (b .1) at (l .longest all (read-encoded (8 * length s) at room)))
 
         by-stop : (b : Bool) → hasStop C all ≡ b → There C s at all
         by-stop true t = phrase (phrase-found all .1 (refl, t))
         by-stop false t = none
             (λ gs p. let g = phrase-found gs .0 p in true≢false (sym (g .1) ∙ rw (← g .0) t))
             (record {
-              encoded = read-encoded (8 * length s) at held;
+              encoded = read-encoded (8 * length s) at room;
               longest = λ gs g.
                   let b = beginning gs (8 * length s) at (enough at g) g t in
                   omega (arith, length-append gs (b .0), ap length (b .1));

@@ -1,13 +1,14 @@
 pub mod Fields
 pub mod Words
 pub mod Checks
+pub mod KindLaws
 pub mod Decoding
-pub mod Extents
 pub mod Taking
 pub mod Encoding
 pub mod CentralLaw
 pub mod ItemLaws
 pub mod FrameCode
+pub mod WholeFrame
 pub mod Walking
 pub mod Theorems
 pub mod WalkAnswers

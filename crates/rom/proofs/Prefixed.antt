@@ -1,4 +1,4 @@
--- Frames behind a prefix of any width are items whose reader obeys the central law, so that the laws of items hold of them.
+-- Frames after a prefix of any width are items whose reader obeys the central law, so that the laws of items hold of them.
 -- Assumes nothing.
 use mathlib.Core.Path.{_≡_, ap, _∙_}
 use mathlib.Core.List.{List}
@@ -11,15 +11,15 @@ use Rattle.rom.specs.Items.{whole}
 use Rattle.rom.specs.Prefix.{prefixedCode, withPrefix, readPrefixed}
 use Rattle.rom.specs.Theorems.{PrefixedLaw, PrefixedRead}
 use Rattle.rom.specs.declared.frames.Frame.{Frame}
-use Rattle.rom.specs.declared.reader.Taken.{Taken}
-use Rattle.rom.specs.declared.reader.Taken.the-variants.{Whole, Cut}
+use Rattle.rom.specs.declared.reader.FrameAnswer.{FrameAnswer}
+use Rattle.rom.specs.declared.reader.FrameAnswer.the-variants.{Whole, Cut}
 use Rattle.rom.proofs.Fields.{field-lt}
 use Rattle.rom.proofs.Encoding.{length-digits, digits-field, field-digits, begins-room, begins-join, begins-split}
 use Rattle.rom.proofs.CentralLaw.{central-law}
 use Rattle.rom.proofs.FrameCode.{four-bits}
 use Rattle.rom.proofs.ItemLaws.{there-read}
 
-is-whole : {q : ℕ} {t : Taken} {i : ℕ × Frame} {n : ℕ} → withPrefix q t ≡ whole i n → (q ≡ i .0) × (t ≡ Whole (i .1) n)
+is-whole : {q : ℕ} {t : FrameAnswer} {i : ℕ × Frame} {n : ℕ} → withPrefix q t ≡ whole i n → (q ≡ i .0) × (t ≡ Whole (i .1) n)
 is-whole {q} {t = Whole g m} {i} {n} e =
     let p : (q, g) ≡ i = cc in
     let r : m ≡ n = cc in

@@ -1,4 +1,4 @@
--- What taking a frame at a bit answers, by the checks and the reader's answer.
+-- What taking a frame at a bit returns, by the checks and the frame answer.
 -- Assumes nothing.
 use mathlib.Core.Path.{_≡_, sym, ap, _∙_}
 use mathlib.Core.List.{List}
@@ -7,14 +7,18 @@ use lib.Dec.{leb}
 use lib.ListN.{length}
 use Rattle.base.proofs.Faults.{answered, refused-with}
 use Rattle.rom.specs.Bits.{imageFault}
-use Rattle.rom.specs.Frames.{bitCount}
+use Rattle.rom.specs.Frames.{bitCount, numbersOf}
 use Rattle.rom.specs.Reader.{frameAt, noFrame, takenOf, frameTakenOf}
 use Rattle.rom.specs.declared.frames.Frame.{Frame}
-use Rattle.rom.specs.declared.frames.Found.the-variants.{Some}
-use Rattle.rom.specs.declared.reader.Taken.{Taken}
-use Rattle.rom.specs.declared.reader.Taken.the-variants.{Whole, Cut}
+use Rattle.rom.specs.declared.frames.MaybeFrame.the-variants.{Some}
+use Rattle.rom.specs.declared.reader.FrameAnswer.{FrameAnswer}
+use Rattle.rom.specs.declared.reader.FrameAnswer.the-variants.{Whole, Cut}
 use Rattle.rom.specs.declared.reader.FrameTaken.{FrameTaken}
 use Rattle.rom.proofs.Checks.{bit-beyond}
+
+-- what is equal has frames of equal numbers
+pub with-numbers : {r t : FrameTaken} → r ≡ t → (r ≡ t) × (numbersOf (r .frame) ≡ numbersOf (t .frame))
+with-numbers e = (e, ap (λ x. numbersOf (x .frame)) e)
 
 module _ (P : ℕ) (s : List ℕ) (bit : ℕ) {n : ℕ} (e : n ≡ imageFault s (leb (length s) (bit / 8))) where
   fault-is : n ≡ imageFault s (leb (8 * length s) bit)
@@ -24,7 +28,7 @@ module _ (P : ℕ) (s : List ℕ) (bit : ℕ) {n : ℕ} (e : n ≡ imageFault s 
   unfolding frameTakenOf
   take-refused a h = refused-with fault-is noFrame _ h a
 
-  module _ (h : n ≡ 0) {t : Taken} (a : t ≡ frameAt P s bit) where
+  module _ (h : n ≡ 0) {t : FrameAnswer} (a : t ≡ frameAt P s bit) where
     pub take-cut : {r : FrameTaken} → r ≡ noFrame 10 → t ≡ Cut → r ≡ frameTakenOf P s bit
     unfolding frameTakenOf
     take-cut b c = answered fault-is noFrame _ h (b ∙ ap (takenOf P) (sym c ∙ a))

@@ -12,7 +12,7 @@ use lib.ListN.{length, length-append}
 use Rattle.rom.specs.Bits.{imageValid, imageFault}
 use Rattle.rom.specs.Frames.{bitsOf}
 use Rattle.rom.specs.Items.{Ended, hasStop, bitsAll}
-use Rattle.rom.specs.Phrases.{frameCode, PhraseAt, framesAt, refused, walkedOver, walkOf}
+use Rattle.rom.specs.Phrases.{frameCode, PhraseAt, framesAt, walkRefused, walkedOver, walkOf}
 use Rattle.rom.specs.Theorems.{WalkAccepts, WalkCounts, WalkRefuses, PhraseUnique, FramesRead}
 use Rattle.rom.specs.declared.frames.Frame.{Frame}
 use Rattle.rom.specs.declared.phrases.Walked.{Walked}
@@ -23,7 +23,7 @@ use Rattle.rom.proofs.ItemLaws.{phrase-found, there-read}
 
 module _ (P : ℕ) (s : List ℕ) (a : ℕ) where
   -- a phrase begins within the image
-  phrase-inside : {fs : List Frame} → PhraseAt P s a fs → a < length s
+  pub phrase-inside : {fs : List Frame} → PhraseAt P s a fs → a < length s
   phrase-inside {fs} p = go fs (p .ended) (begins-room s (8 * a) (bitsAll (frameCode P) fs) (p .encoded .begins))
     where
       go : (gs : List Frame) → Ended (frameCode P) gs → 8 * a + length (bitsAll (frameCode P) gs) ≤ 8 * length s → a < length s
@@ -64,7 +64,7 @@ walk-accepts P s a = (phrase-of-walk P s a, λ h. ap (λ (w : Walked). w .refusa
 pub walk-refuses : WalkRefuses
 walk-refuses P s a v inside n = walk-is P s a inside v ∙ go (hasStop (frameCode P) (framesAt P s a)) refl
   where
-    go : (b : Bool) → hasStop (frameCode P) (framesAt P s a) ≡ b → walkedOver P (framesAt P s a) ≡ refused 10
+    go : (b : Bool) → hasStop (frameCode P) (framesAt P s a) ≡ b → walkedOver P (framesAt P s a) ≡ walkRefused 10
     go true t = absurd (n _ (found P s a inside _ .1 (refl, t)))
     go false t = rw t
 

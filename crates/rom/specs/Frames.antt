@@ -5,8 +5,8 @@ use Prim.Native.Nat.{ℕ, _+_, _^_, _<_}
 use Rattle.rom.specs.Bits.{digits}
 use Rattle.rom.specs.declared.frames.Frame.{Frame}
 use Rattle.rom.specs.declared.frames.Frame.the-variants.{Silence, Stop, Repeat, Unvoiced, Voiced}
-use Rattle.rom.specs.declared.frames.Found.{Found}
-use Rattle.rom.specs.declared.frames.Found.the-variants.{Some, None}
+use Rattle.rom.specs.declared.frames.MaybeFrame.{MaybeFrame}
+use Rattle.rom.specs.declared.frames.MaybeFrame.the-variants.{Some, None}
 
 -- the pitch width of the TMS5220 and TMS5200
 abbrev pub pitchBits : ℕ
@@ -53,7 +53,7 @@ Proper P f = Fit (fieldsOf P f) × OfKind f
 abbrev pub bitsOf : ℕ → Frame → List ℕ
 bitsOf P f = encoded (fieldsOf P f)
 
--- how many they are
+-- their number
 abbrev pub bitCount : ℕ → Frame → ℕ
 bitCount P f = totalWidth (fieldsOf P f)
 
@@ -65,9 +65,9 @@ isStop (Repeat e p) = false
 isStop (Unvoiced e k1 k2 k3 k4) = false
 isStop (Voiced e p k1 k2 k3 k4 k5 k6 k7 k8 k9 k10) = false
 
--- The numbers of each case of an answer's frame: the kind (0 none, 1 silence, 2 stop, 3 repeat, 4 unvoiced, 5 voiced),
+-- The numbers of each case of a frame or none: the kind (0 none, 1 silence, 2 stop, 3 repeat, 4 unvoiced, 5 voiced),
 -- the energy and pitch indexes and those of K1 to K10; 0 for an index that the kind does not carry.
-abbrev pub numbersOf : Found → List ℕ
+abbrev pub numbersOf : MaybeFrame → List ℕ
 numbersOf None = 0 ∷ 0 ∷ 0 ∷ 0 ∷ 0 ∷ 0 ∷ 0 ∷ 0 ∷ 0 ∷ 0 ∷ 0 ∷ 0 ∷ 0 ∷ []
 numbersOf (Some Silence) = 1 ∷ 0 ∷ 0 ∷ 0 ∷ 0 ∷ 0 ∷ 0 ∷ 0 ∷ 0 ∷ 0 ∷ 0 ∷ 0 ∷ 0 ∷ []
 numbersOf (Some Stop) = 2 ∷ 15 ∷ 0 ∷ 0 ∷ 0 ∷ 0 ∷ 0 ∷ 0 ∷ 0 ∷ 0 ∷ 0 ∷ 0 ∷ 0 ∷ []

@@ -15,15 +15,15 @@ pub record Code : Type 1 where
   pub bits : Item → List ℕ
   pub stops : Item → Bool
 
--- what a reader answers at a bit: a whole item and the bit after it, or that the bits end
-pub data Read (A : Type 0) : Type 0 where
-  whole : A → ℕ → Read A
-  cut : Read A
+-- what a reader returns at a bit: a whole item and the bit after it, or that the bits end
+pub data ItemAnswer (A : Type 0) : Type 0 where
+  whole : A → ℕ → ItemAnswer A
+  cut : ItemAnswer A
 
 module _ (C : Code) where
-  -- the central law, of any reader and its items: it answers a whole item exactly when the item is proper and its bits stand
+  -- the central law, of any reader and its items: it returns a whole item exactly when the item is proper and its bits stand
   -- there, with the bit after them; and no item is without a bit
-  pub record Lawful (s : List ℕ) (read : ℕ → Read (C .Item)) : Type 0 where
+  pub record Lawful (s : List ℕ) (read : ℕ → ItemAnswer (C .Item)) : Type 0 where
     pub law : (at : ℕ) (f : C .Item) (next : ℕ)
         → (read at ≡ whole f next) ↔ (C .Proper f × Begins s at (C .bits f) × (next ≡ at + length (C .bits f)))
     pub some : (f : C .Item) → 0 < length (C .bits f)
@@ -63,13 +63,13 @@ module _ (C : Code) where
     phrase : Phrase s at fs → There s at fs
     none : ((gs : List (C .Item)) → Phrase s at gs → ⊥) → Longest s at fs → There s at fs
 
-  -- the items that a reader's answer begins: none, the stop alone, or the item and those from the bit after it on
-  abbrev pub itemsOf : Read (C .Item) → (ℕ → List (C .Item)) → List (C .Item)
+  -- the items that begin with what a reader returns: none, the stop alone, or the item and those from the bit after it on
+  abbrev pub itemsOf : ItemAnswer (C .Item) → (ℕ → List (C .Item)) → List (C .Item)
   itemsOf cut after = []
   itemsOf (whole f next) after = f ∷ cond (C .stops f) [] (after next)
 
   -- the items read from bit `at` on, through the first stop or up to where the bits end; at most n
-  unfoldable pub itemsFrom : (ℕ → Read (C .Item)) → ℕ → ℕ → List (C .Item)
+  unfoldable pub itemsFrom : (ℕ → ItemAnswer (C .Item)) → ℕ → ℕ → List (C .Item)
   itemsFrom read at zero = []
   itemsFrom read at (suc n) = itemsOf (read at) (λ next. itemsFrom read next n)
 

@@ -1,4 +1,5 @@
 pub mod Bits
+pub mod Window
 pub mod Frames
 pub mod Reader
 pub mod Items

@@ -6,10 +6,10 @@ use Prim.Native.Nat.{ℕ, _+_, _^_, _<_}
 use Rattle.rom.specs.Bits.{field, digits}
 use Rattle.rom.specs.Frames.{bitsOf, Proper, isStop}
 use Rattle.rom.specs.Reader.{frameAt}
-use Rattle.rom.specs.Items.{Code, Read, whole, cut}
+use Rattle.rom.specs.Items.{Code, ItemAnswer, whole, cut}
 use Rattle.rom.specs.declared.frames.Frame.{Frame}
-use Rattle.rom.specs.declared.reader.Taken.{Taken}
-use Rattle.rom.specs.declared.reader.Taken.the-variants.{Whole, Cut}
+use Rattle.rom.specs.declared.reader.FrameAnswer.{FrameAnswer}
+use Rattle.rom.specs.declared.reader.FrameAnswer.the-variants.{Whole, Cut}
 
 -- a prefix's value and its frame
 abbrev pub prefixedCode : ℕ → ℕ → Code
@@ -20,11 +20,11 @@ prefixedCode Q P = record {
   stops = λ i. isStop (i .1);
 }
 
--- the reader's answer after a prefix of value q
-abbrev pub withPrefix : ℕ → Taken → Read (ℕ × Frame)
+-- the frame answer after a prefix of value q, as that of an item
+abbrev pub withPrefix : ℕ → FrameAnswer → ItemAnswer (ℕ × Frame)
 withPrefix q (Whole f next) = whole (q, f) next
 withPrefix q Cut = cut
 
 -- the reader of a prefix and its frame
-abbrev pub readPrefixed : ℕ → ℕ → List ℕ → ℕ → Read (ℕ × Frame)
+abbrev pub readPrefixed : ℕ → ℕ → List ℕ → ℕ → ItemAnswer (ℕ × Frame)
 readPrefixed Q P s at = withPrefix (field s at Q) (frameAt P s (at + Q))

@@ -1,5 +1,5 @@
 -- What is proved of the reader and the walk, for every image, address and width P of the pitch field. The proofs are in
--- proofs/: CentralLaw, Prefixed (of frames behind a prefix) and Theorems (of all else).
+-- proofs/: CentralLaw, Prefixed (of frames after a prefix) and Theorems (of all else).
 use mathlib.Core.Path.{_≡_}
 use mathlib.Core.Logic.{_↔_}
 use mathlib.Core.Bool.{true}
@@ -11,12 +11,12 @@ use Rattle.rom.specs.Bits.{imageValid, Begins}
 use Rattle.rom.specs.Frames.{Proper, bitsOf}
 use Rattle.rom.specs.Reader.{frameAt}
 use Rattle.rom.specs.Items.{Lawful, There, bitsAll, itemsFrom}
-use Rattle.rom.specs.Phrases.{frameCode, PhraseAt, FramesThere, framesAt, accepted, refused, walkOf}
+use Rattle.rom.specs.Phrases.{frameCode, PhraseAt, FramesThere, framesAt, walkAccepted, walkRefused, walkOf}
 use Rattle.rom.specs.Prefix.{prefixedCode, readPrefixed}
 use Rattle.rom.specs.declared.frames.Frame.{Frame}
-use Rattle.rom.specs.declared.reader.Taken.the-variants.{Whole}
+use Rattle.rom.specs.declared.reader.FrameAnswer.the-variants.{Whole}
 
--- The reader's central law: it answers a whole frame f, and `next`, exactly when f is proper, the image's bits there begin
+-- The reader's central law: it returns a whole frame f, and `next`, exactly when f is proper, the image's bits there begin
 -- with the bits that the table of kinds gives f, and `next` is the bit after them.
 abbrev pub CentralLaw : Type 0
 CentralLaw =
@@ -33,13 +33,13 @@ WalkAccepts =
 abbrev pub WalkCounts : Type 0
 WalkCounts =
     (P : ℕ) (s : List ℕ) (a : ℕ) (fs : List Frame) → imageValid s ≡ true → PhraseAt P s a fs
-    → walkOf P s a ≡ accepted (length (bitsAll (frameCode P) fs)) (length fs)
+    → walkOf P s a ≡ walkAccepted (length (bitsAll (frameCode P) fs)) (length fs)
 
 -- Where no phrase begins at an address of a valid image, the walk is refused with 10.
 abbrev pub WalkRefuses : Type 0
 WalkRefuses =
     (P : ℕ) (s : List ℕ) (a : ℕ) → imageValid s ≡ true → a < length s → ((fs : List Frame) → PhraseAt P s a fs → ⊥)
-    → walkOf P s a ≡ refused NO-PHRASE
+    → walkOf P s a ≡ walkRefused NO-PHRASE
 
 -- No second phrase begins at an address: two have the same kinds and indexes.
 abbrev pub PhraseUnique : Type 0
@@ -50,7 +50,7 @@ PhraseUnique = (P : ℕ) (s : List ℕ) (a : ℕ) (fs gs : List Frame) → Phras
 abbrev pub FramesRead : Type 0
 FramesRead = (P : ℕ) (s : List ℕ) (a : ℕ) (fs : List Frame) → a < length s → FramesThere P s a fs ↔ (framesAt P s a ≡ fs)
 
--- The reader of frames behind a prefix of Q bits obeys the central law of these items.
+-- The reader of frames after a prefix of Q bits obeys the central law of these items.
 abbrev pub PrefixedLaw : Type 0
 PrefixedLaw = (Q P : ℕ) (s : List ℕ) → Lawful (prefixedCode Q P) s (readPrefixed Q P s)
 

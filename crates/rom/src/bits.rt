@@ -1,8 +1,10 @@
 // The bits of a lent image.
 ghost use mathlib.Core.Path.{_≡_};
-ghost use Prim.Native.Nat.{_+_, _*_, _≤_, _^_};
+ghost use mathlib.Core.List.{List};
+ghost use Prim.Native.Nat.{ℕ, _+_, _*_, _/_, _%_, _≤_, _<_, _^_};
+ghost use lib.ListN.{length};
 ghost use Rattle.rom.specs.Bits.{field, imageValid, imageFault};
-use base::bytes::byte_at;
+ghost use Rattle.rom.specs.Window.{windowBits, backwardsAt, Window};
 use base::refusal::BEYOND;
 use base::refusal::IMAGE;
 use base::refusal::TAKEN;
@@ -35,36 +37,94 @@ fn word(a: u8, b: u8, c: u8, d: u8) -> u64
     16777216 * a as u64 + 65536 * b as u64 + 256 * c as u64 + d as u64
 }
 
-// The number in the 32 bits from byte n on. Four bytes that are all there are one load for the compiler; the walk spends its
-// time here.
-fn word_at(s: &[u8], n: usize) -> u64
-    requires { ⌜ n ≤ 2 ^ 32 ⌝ }
+// The number of the four bytes from byte n on, the last the most significant: one load for the compiler.
+fn backwards(s: &[u8], n: usize) -> u64
+    requires { ⌜ n + 3 < length (now s) ⌝ }
+    ensures { λ r. ⌜ r ≡ backwardsAt (now (s .entry)) n ⌝ }
+{
+    word(s[n + 3], s[n + 2], s[n + 1], s[n])
+}
+
+// The bytes of a number below 2^32 the other way round: one instruction for the compiler.
+fn turn(x: u64) -> u64
+    requires { ⌜ x < 2 ^ 32 ⌝ }
+    ensures { λ r. ⌜ r ≡ 16777216 * (x % 256) + 65536 * (x / 256 % 256) + 256 * (x / 65536 % 256) + x / 16777216 ⌝ }
+{
+    16777216 * (x % 256) + 65536 * (x / 256 % 256) + 256 * (x / 65536 % 256) + x / 16777216
+}
+
+// The number in the 32 bits from byte n on, where the slice has them all. Of four bytes in this order the compiler would load each
+// that the walk uses by itself.
+fn word_in(s: &[u8], n: usize) -> u64
+    requires { ⌜ n + 3 < length (now s) ⌝ }
     ensures { λ r. ⌜ r ≡ field (now (s .entry)) (8 * n) 32 ⌝ }
 {
-    if n + 3 < s.len() {
-        return word(s[n], s[n + 1], s[n + 2], s[n + 3]);
-    }
-    word(
-        byte_at(s, n),
-        byte_at(s, n + 1),
-        byte_at(s, n + 2),
-        byte_at(s, n + 3),
-    )
+    turn(backwards(s, n))
 }
 
-// The number in the `width` bits from bit `at` on, the first the most significant. They stand in the 32 bits from their
-// first byte on.
-pub(crate) fn wide_field_at(s: &[u8], at: usize, width: usize) -> u64
-    requires { ⌜ (width ≤ 25) × (at ≤ 2 ^ 32) ⌝ }
-    ensures { λ r. ⌜ r ≡ field (now (s .entry)) at width ⌝ }
+// The number of two words, the first the more significant.
+fn two_words(high: u64, low: u64) -> u64
+    requires { ⌜ (high < 2 ^ 32) × (low < 2 ^ 32) ⌝ }
+    ensures { λ r. ⌜ r ≡ 2 ^ 32 * high + low ⌝ }
 {
-    (word_at(s, at / 8) >> (32 - at % 8 - width)) % (1 << width)
+    4294967296 * high + low
 }
 
-// The same for at most eight bits.
+// Eight bytes as a number, moved on by one byte, which becomes the first.
+fn move_on(number: u64, byte: u8) -> u64
+    ensures { λ r. ⌜ r ≡ number / 256 + 2 ^ 56 * byte ⌝ }
+{
+    number / 256 + 72057594037927936 * byte as u64
+}
+
+// The number in the 64 bits from byte n on, where the slice may end before them: from its last byte back to byte n. A loop, and not
+// eight reads, so that the compiler finds `window_at` small enough for the walk's loop.
+fn be64_end(s: &[u8], n: usize) -> u64
+    ensures { λ r. ⌜ r ≡ field (now (s .entry)) (8 * n) 64 ⌝ }
+{
+    let mut number: u64 = 0;
+    let mut i = s.len();
+    while n < i {
+        i -= 1;
+        number = move_on(number, s[i]);
+    }
+    number
+}
+
+// The same, and quick where the slice has them all; the walk spends its time here.
+fn be64(s: &[u8], n: usize) -> u64
+    requires { ⌜ n ≤ 2 ^ 32 ⌝ }
+    ensures { λ r. ⌜ r ≡ field (now (s .entry)) (8 * n) 64 ⌝ }
+{
+    if n + 7 < s.len() {
+        return two_words(word_in(s, n), word_in(s, n + 4));
+    }
+    be64_end(s, n)
+}
+
+// The bits of a window: as many as eight bytes have from any bit of the first on, and more than a frame has.
+const WINDOW_BITS: usize = 57;
+
+// The window at bit `at`: the number in the 57 bits from there on, the first the most significant.
+pub(crate) fn window_at(s: &[u8], at: usize) -> u64
+    requires { ⌜ at ≤ 2 ^ 32 ⌝ }
+    ensures { λ r. ⌜ Window (now (s .entry)) at r ⌝ }
+{
+    (be64(s, at / 8) >> (7 - at % 8)) % (1 << WINDOW_BITS)
+}
+
+// The field of `width` bits after the first `skipped` bits of a window, whatever image and bit the window is of.
+pub(crate) fn part(window: u64, skipped: usize, width: usize) -> u8
+    requires { ⌜ (width ≤ 8) × (skipped + width ≤ windowBits) ⌝ }
+    ensures { λ r. ⌜ ((s : List ℕ) (at : ℕ) → Window s at window → r ≡ field s (at + skipped) width) ⌝ }
+{
+    ((window >> (WINDOW_BITS - skipped - width)) % (1 << width)) as u8
+}
+
+// The number in the `width` bits from bit `at` on, the first the most significant.
 pub fn field_at(s: &[u8], at: usize, width: usize) -> u8
     requires { ⌜ (width ≤ 8) × (at ≤ 2 ^ 32) ⌝ }
     ensures { λ r. ⌜ r ≡ field (now (s .entry)) at width ⌝ }
 {
-    wide_field_at(s, at, width) as u8
+    part(window_at(s, at), 0, width)
 }

@@ -37,7 +37,7 @@ pub enum Frame {
 }
 
 // A frame, or none.
-pub enum Found {
+pub enum MaybeFrame {
     Some(Frame),
     None,
 }
@@ -58,10 +58,10 @@ pub fn is_stop(f: Frame) -> bool
 pub type Numbers = [u8; 13];
 
 // The numbers of a frame: 0 for an index that the kind does not carry, all 0 for no frame.
-pub fn numbers(f: Found) -> Numbers
+pub fn numbers(f: MaybeFrame) -> Numbers
     ensures { λ r. ⌜ r ≡ numbersOf f ⌝ }
 {
-    let Found::Some(f) = f else {
+    let MaybeFrame::Some(f) = f else {
         return [0; 13];
     };
     match f {

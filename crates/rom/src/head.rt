@@ -1,100 +1,76 @@
-// The head of a frame: its energy, repeat bit and pitch. It tells the kind, and with it where the frame ends, without the K.
+// The head of a frame: its energy, repeat bit and pitch. It gives the kind, and with it where the frame ends.
 ghost use mathlib.Core.Path.{_≡_};
-ghost use Prim.Native.Nat.{_+_, _-_, _≤_, _<_, _^_};
-ghost use lib.ListN.{length};
-ghost use Rattle.rom.specs.Bits.{field};
-ghost use Rattle.rom.specs.Frames.{bitCount, isStop};
-ghost use Rattle.rom.specs.Reader.{decoded, frameAt, skippedOf};
-use crate::bits::wide_field_at;
+ghost use mathlib.Core.List.{List};
+ghost use Prim.Native.Nat.{ℕ, _≤_};
+ghost use Rattle.rom.specs.Window.{Window};
+ghost use Rattle.rom.specs.Reader.{headAt, kindOf, kindBits};
+use crate::bits::part;
 
-// The energies of a silence and a stop.
-pub(crate) const SILENCE_CODE: u8 = 0;
-
-pub(crate) const STOP_CODE: u8 = 15;
-
-// The fields that tell the kind of a frame.
+// The fields that give the kind of a frame.
 pub struct Head {
     pub energy: u8,
     pub repeat: u8,
     pub pitch: u8,
 }
 
-// The head of the frame at bit `at`, read as one field.
-pub(crate) fn head_at(s: &[u8], at: usize, pitch_bits: usize) -> Head
-    requires { ⌜ («pitch_bits» ≤ 8) × (at < 2 ^ 32 - 64) ⌝ }
-    ensures { λ r. ⌜ (r .energy ≡ field (now (s .entry)) at 4) × (r .repeat ≡ field (now (s .entry)) (at + 4) 1) × (r .pitch ≡ field (now (s .entry)) (at + 5) «pitch_bits») ⌝ }
+// The head of the frame whose first bit is that of a window.
+pub(crate) fn head_of(window: u64, pitch_bits: usize) -> Head
+    requires { ⌜ «pitch_bits» ≤ 8 ⌝ }
+    ensures { λ r. ⌜ ((s : List ℕ) (at : ℕ) → Window s at window → r ≡ headAt «pitch_bits» s at) ⌝ }
 {
-    let bits = wide_field_at(s, at, 5 + pitch_bits);
     Head {
-        energy: (bits >> (1 + pitch_bits)) as u8,
-        repeat: ((bits >> pitch_bits) % 2) as u8,
-        pitch: (bits % (1 << pitch_bits)) as u8,
+        energy: part(window, 0, 4),
+        repeat: part(window, 4, 1),
+        pitch: part(window, 5, pitch_bits),
     }
 }
 
-// How many bits a frame has, and whether it is a stop.
-struct Extent {
-    pub bits: usize,
-    pub stop: bool,
+// The kinds of frames.
+pub(crate) enum Kind {
+    Silence,
+    Stop,
+    Repeat,
+    Unvoiced,
+    Voiced,
 }
 
-// The extent of the frame in the bits from bit `at` on, as if zeros followed the last bit of s: 4 bits of energy; with repeat
-// and pitch 5 + `pitch_bits`; 18 more with K1 to K4; 39 more with K1 to K10.
-fn extent_at(s: &[u8], at: usize, pitch_bits: usize) -> Extent
-    requires { ⌜ («pitch_bits» ≤ 8) × (at < 2 ^ 32 - 64) ⌝ }
-    ensures { λ r. ⌜ (r .bits ≡ bitCount «pitch_bits» (decoded «pitch_bits» (now (s .entry)) at)) × (r .stop ≡ isStop (decoded «pitch_bits» (now (s .entry)) at)) ⌝ }
+// The energies of a silence and a stop.
+const SILENCE_CODE: u8 = 0;
+
+const STOP_CODE: u8 = 15;
+
+// The kind that a head gives.
+pub(crate) fn kind_of(head: Head) -> Kind
+    ensures { λ r. ⌜ r ≡ kindOf head ⌝ }
 {
-    let head = head_at(s, at, pitch_bits);
     let energy = head.energy;
     let repeat = head.repeat;
     let pitch = head.pitch;
     if energy == SILENCE_CODE {
-        return Extent {
-            bits: 4,
-            stop: false,
-        };
+        return Kind::Silence;
     }
     if energy == STOP_CODE {
-        return Extent {
-            bits: 4,
-            stop: true,
-        };
+        return Kind::Stop;
     }
     if repeat == 1 {
-        return Extent {
-            bits: 5 + pitch_bits,
-            stop: false,
-        };
+        return Kind::Repeat;
     }
     if pitch == 0 {
-        return Extent {
-            bits: 23 + pitch_bits,
-            stop: false,
-        };
+        return Kind::Unvoiced;
     }
-    Extent {
-        bits: 44 + pitch_bits,
-        stop: false,
-    }
+    Kind::Voiced
 }
 
-// A frame is skipped whole, with whether it is a stop and the bit after it, or the bits end inside it or before it.
-pub(crate) enum Skipped {
-    Past(bool, usize),
-    Cut,
-}
-
-// The frame at bit `at`, skipped.
-pub(crate) fn skip_frame(s: &[u8], at: usize, pitch_bits: usize) -> Skipped
-    requires { ⌜ («pitch_bits» ≤ 8) × (at < 2 ^ 32 - 64) × (length (now s) < 2 ^ 32) ⌝ }
-    ensures { λ r. ⌜ r ≡ skippedOf (frameAt «pitch_bits» (now (s .entry)) at) ⌝ }
+// The bits of a frame of a kind: 4 of energy, 1 + `pitch_bits` of repeat and pitch, 18 of K1 to K4, 39 of K1 to K10.
+pub(crate) fn kind_bits(kind: Kind, pitch_bits: usize) -> usize
+    requires { ⌜ «pitch_bits» ≤ 8 ⌝ }
+    ensures { λ r. ⌜ r ≡ kindBits «pitch_bits» kind ⌝ }
 {
-    let extent = extent_at(s, at, pitch_bits);
-    let stop = extent.stop;
-    let next = at + extent.bits;
-    if next <= 8 * s.len() {
-        Skipped::Past(stop, next)
-    } else {
-        Skipped::Cut
+    match kind {
+        Kind::Silence => 4,
+        Kind::Stop => 4,
+        Kind::Repeat => 5 + pitch_bits,
+        Kind::Unvoiced => 23 + pitch_bits,
+        Kind::Voiced => 44 + pitch_bits,
     }
 }

@@ -4,18 +4,20 @@ ghost use Prim.Native.Nat.{_*_, _≤_};
 ghost use lib.ListN.{length};
 ghost use Rattle.rom.specs.Bits.{imageLimit};
 ghost use Rattle.rom.specs.Frames.{pitchBits};
-ghost use Rattle.rom.specs.Phrases.{refused, accepted, framesFrom, walkedOver, walkOf, phraseOf};
+ghost use Rattle.rom.specs.Phrases.{walkRefused, walkAccepted, framesFrom, walkedOver, walkOf, phraseOf};
 use crate::bits::image_fault;
+use crate::bits::window_at;
 use crate::frames::PITCH_BITS;
-use crate::head::Skipped;
-use crate::head::skip_frame;
+use crate::frames::is_stop;
+use crate::reader::FrameAnswer;
+use crate::reader::frame_in;
 use base::refusal::NO_PHRASE;
 use base::refusal::TAKEN;
 use base::units::Frames;
 use base::units::Intervals;
 use base::units::Samples;
 
-// What a walk answers: the refusal number, and the phrase's bits, frames and duration. The number of frames is the duration
+// What a walk returns: the refusal number, and the phrase's bits, frames and duration. The number of frames is the duration
 // in frames.
 pub struct Walked {
     pub refusal: u8,
@@ -26,21 +28,21 @@ pub struct Walked {
 }
 
 fn refuse(refusal: u8) -> Walked
-    ensures { λ r. ⌜ r ≡ refused refusal ⌝ }
+    ensures { λ r. ⌜ r ≡ walkRefused refusal ⌝ }
 {
     Walked {
         refusal,
         bits: 0,
-        frames: Frames(0),
-        intervals: Intervals(0),
-        samples: Samples(0),
+        frames: Frames::of(0),
+        intervals: Intervals::of(0),
+        samples: Samples::of(0),
     }
 }
 
 fn accept(bits: usize, count: u32) -> Walked
-    ensures { λ r. ⌜ r ≡ accepted bits count ⌝ }
+    ensures { λ r. ⌜ r ≡ walkAccepted bits count ⌝ }
 {
-    let frames = Frames(count);
+    let frames = Frames::of(count);
     let intervals = frames.intervals();
     let samples = intervals.samples();
     Walked {
@@ -52,7 +54,8 @@ fn accept(bits: usize, count: u32) -> Walked
     }
 }
 
-// The walk from bit `start` on, through the first stop, of an image that has passed the checks.
+// The walk from bit `start` on, through the first stop, of an image that has passed the checks. The two calls are `frame_at`: the
+// compiler finds each small enough for this loop, and not both in one.
 fn walk_from(image: &[u8], start: usize, pitch_bits: usize) -> Walked
     requires { ⌜ («pitch_bits» ≤ 8) × (length (now image) ≤ imageLimit) × (start ≤ 8 * length (now image)) ⌝ }
     ensures { λ r. ⌜ r ≡ walkedOver «pitch_bits» (framesFrom «pitch_bits» (now (image .entry)) start (8 * length (now (image .entry)))) ⌝ }
@@ -60,13 +63,13 @@ fn walk_from(image: &[u8], start: usize, pitch_bits: usize) -> Walked
     let mut at = start;
     let mut count: u32 = 0;
     loop {
-        let skipped = skip_frame(image, at, pitch_bits);
-        let Skipped::Past(stop, next) = skipped else {
+        let answer = frame_in(window_at(image, at), at, 8 * image.len(), pitch_bits);
+        let FrameAnswer::Whole(frame, next) = answer else {
             return refuse(NO_PHRASE);
         };
         at = next;
         count += 1;
-        if stop {
+        if is_stop(frame) {
             return accept(at - start, count);
         }
     }
@@ -83,17 +86,23 @@ pub fn walk(image: &[u8], address: usize) -> Walked
     walk_from(image, 8 * address, PITCH_BITS)
 }
 
-// Operation: the part of the image that the phrase at a byte address takes, empty where the walk is refused.
-pub fn phrase(image: &[u8], address: usize) -> &[u8]
+// The part that the phrase at a byte address takes, by the number and bits of its walk, so that a caller that has them walks once.
+pub fn part_of(image: &[u8], address: usize, refusal: u8, bits: usize) -> &[u8]
+    requires { ⌜ (refusal ≡ walkOf pitchBits (now image) address .refusal) × (bits ≡ walkOf pitchBits (now image) address .bits) ⌝ }
     ensures { λ r. ⌜ now r ≡ phraseOf pitchBits (now (image .entry)) address ⌝ }
 {
-    let walked = walk(image, address);
-    let refusal = walked.refusal;
-    let bits = walked.bits;
     if refusal == TAKEN {
         let end = address + (bits + 7) / 8;
         &image[address..end]
     } else {
         &image[0..0]
     }
+}
+
+// Operation: the part of the image that the phrase at a byte address takes, empty where the walk is refused.
+pub fn phrase(image: &[u8], address: usize) -> &[u8]
+    ensures { λ r. ⌜ now r ≡ phraseOf pitchBits (now (image .entry)) address ⌝ }
+{
+    let walked = walk(image, address);
+    part_of(image, address, walked.refusal, walked.bits)
 }

@@ -1,106 +1,100 @@
 // The frame reader over a lent slice and a bit, with the width of the pitch field as a parameter. It serves an image and a
 // FIFO's bytes alike. And the operation that takes a frame at a bit of an image.
 ghost use mathlib.Core.Path.{_≡_};
-ghost use Prim.Native.Nat.{_-_, _≤_, _<_, _^_};
+ghost use mathlib.Core.List.{List};
+ghost use Prim.Native.Nat.{ℕ, _+_, _*_, _-_, _≤_, _<_, _^_};
 ghost use lib.ListN.{length};
-ghost use Rattle.rom.specs.Frames.{pitchBits};
-ghost use Rattle.rom.specs.Reader.{unvoicedAt, voicedAt, decoded, frameAt, noFrame, frameTakenOf};
-use crate::bits::field_at;
+ghost use Rattle.rom.specs.Window.{Window};
+ghost use Rattle.rom.specs.Frames.{pitchBits, numbersOf};
+ghost use Rattle.rom.specs.Reader.{frameOf, frameAt, noFrame, frameTakenOf};
 use crate::bits::image_fault;
-use crate::frames::Found;
+use crate::bits::part;
+use crate::bits::window_at;
 use crate::frames::Frame;
+use crate::frames::MaybeFrame;
 use crate::frames::PITCH_BITS;
-use crate::head::SILENCE_CODE;
-use crate::head::STOP_CODE;
-use crate::head::Skipped;
-use crate::head::head_at;
-use crate::head::skip_frame;
+use crate::head::Head;
+use crate::head::Kind;
+use crate::head::head_of;
+use crate::head::kind_bits;
+use crate::head::kind_of;
 use base::refusal::NO_PHRASE;
 use base::refusal::TAKEN;
 
 // A frame is taken whole, with the bit after it, or the bits end inside it or before it.
-pub enum Taken {
+pub enum FrameAnswer {
     Whole(Frame, usize),
     Cut,
 }
 
-// The unvoiced frame whose K1 to K4 stand from bit `at` on.
-fn unvoiced_at(s: &[u8], at: usize, energy: u8) -> Frame
-    requires { ⌜ at < 2 ^ 32 - 48 ⌝ }
-    ensures { λ r. ⌜ r ≡ unvoicedAt (now (s .entry)) at energy ⌝ }
+// The frame of a kind and a head. Its K are parts of its window, which cost nothing where the caller does not use them.
+fn frame_of(kind: Kind, head: Head, window: u64, pitch_bits: usize) -> Frame
+    requires { ⌜ «pitch_bits» ≤ 8 ⌝ }
+    ensures { λ r. ⌜ ((s : List ℕ) (at : ℕ) → Window s at window → r ≡ frameOf kind head s (at + 5 + «pitch_bits»)) ⌝ }
 {
-    Frame::Unvoiced {
-        energy,
-        k1: field_at(s, at, 5),
-        k2: field_at(s, at + 5, 5),
-        k3: field_at(s, at + 10, 4),
-        k4: field_at(s, at + 14, 4),
-    }
-}
-
-// The voiced frame whose K1 to K10 stand from bit `at` on.
-fn voiced_at(s: &[u8], at: usize, energy: u8, pitch: u8) -> Frame
-    requires { ⌜ at < 2 ^ 32 - 48 ⌝ }
-    ensures { λ r. ⌜ r ≡ voicedAt (now (s .entry)) at energy pitch ⌝ }
-{
-    Frame::Voiced {
-        energy,
-        pitch,
-        k1: field_at(s, at, 5),
-        k2: field_at(s, at + 5, 5),
-        k3: field_at(s, at + 10, 4),
-        k4: field_at(s, at + 14, 4),
-        k5: field_at(s, at + 18, 4),
-        k6: field_at(s, at + 22, 4),
-        k7: field_at(s, at + 26, 4),
-        k8: field_at(s, at + 30, 3),
-        k9: field_at(s, at + 33, 3),
-        k10: field_at(s, at + 36, 3),
-    }
-}
-
-// The frame in the bits from bit `at` on, as if zeros followed the last bit of s.
-fn decode(s: &[u8], at: usize, pitch_bits: usize) -> Frame
-    requires { ⌜ («pitch_bits» ≤ 8) × (at < 2 ^ 32 - 64) ⌝ }
-    ensures { λ r. ⌜ r ≡ decoded «pitch_bits» (now (s .entry)) at ⌝ }
-{
-    let head = head_at(s, at, pitch_bits);
     let energy = head.energy;
-    let repeat = head.repeat;
     let pitch = head.pitch;
-    if energy == SILENCE_CODE {
-        return Frame::Silence;
+    let k = 5 + pitch_bits;
+    let k1 = part(window, k, 5);
+    let k2 = part(window, k + 5, 5);
+    let k3 = part(window, k + 10, 4);
+    let k4 = part(window, k + 14, 4);
+    match kind {
+        Kind::Silence => Frame::Silence,
+        Kind::Stop => Frame::Stop,
+        Kind::Repeat => Frame::Repeat { energy, pitch },
+        Kind::Unvoiced => Frame::Unvoiced {
+            energy,
+            k1,
+            k2,
+            k3,
+            k4,
+        },
+        Kind::Voiced => Frame::Voiced {
+            energy,
+            pitch,
+            k1,
+            k2,
+            k3,
+            k4,
+            k5: part(window, k + 18, 4),
+            k6: part(window, k + 22, 4),
+            k7: part(window, k + 26, 4),
+            k8: part(window, k + 30, 3),
+            k9: part(window, k + 33, 3),
+            k10: part(window, k + 36, 3),
+        },
     }
-    if energy == STOP_CODE {
-        return Frame::Stop;
+}
+
+// The frame whose first bit is that of the window at bit `at`, with the bit after it, where the slice has `end` bits. Its head is
+// read once, and gives its kind, its bits and the frame.
+pub(crate) fn frame_in(window: u64, at: usize, end: usize, pitch_bits: usize) -> FrameAnswer
+    requires { ⌜ («pitch_bits» ≤ 8) × (at < 2 ^ 32 - 64) ⌝ }
+    ensures { λ r. ⌜ ((s : List ℕ) → Window s at window → end ≡ 8 * length s → r ≡ frameAt «pitch_bits» s at) ⌝ }
+{
+    let head = head_of(window, pitch_bits);
+    let kind = kind_of(head);
+    let next = at + kind_bits(kind, pitch_bits);
+    if end < next {
+        return FrameAnswer::Cut;
     }
-    if repeat == 1 {
-        return Frame::Repeat { energy, pitch };
-    }
-    let k = at + 5 + pitch_bits;
-    if pitch == 0 {
-        return unvoiced_at(s, k, energy);
-    }
-    voiced_at(s, k, energy, pitch)
+    let frame = frame_of(kind, head, window, pitch_bits);
+    FrameAnswer::Whole(frame, next)
 }
 
 // The frame at bit `at`, with the bit after it.
-pub fn frame_at(s: &[u8], at: usize, pitch_bits: usize) -> Taken
+pub fn frame_at(s: &[u8], at: usize, pitch_bits: usize) -> FrameAnswer
     requires { ⌜ («pitch_bits» ≤ 8) × (at < 2 ^ 32 - 64) × (length (now s) < 2 ^ 32) ⌝ }
     ensures { λ r. ⌜ r ≡ frameAt «pitch_bits» (now (s .entry)) at ⌝ }
 {
-    let skipped = skip_frame(s, at, pitch_bits);
-    let Skipped::Past(_, next) = skipped else {
-        return Taken::Cut;
-    };
-    let f = decode(s, at, pitch_bits);
-    Taken::Whole(f, next)
+    frame_in(window_at(s, at), at, 8 * s.len(), pitch_bits)
 }
 
-// What taking a frame at a bit answers: the refusal number, the frame or none, and its bits.
+// What taking a frame at a bit returns: the refusal number, the frame or none, and its bits.
 pub struct FrameTaken {
     pub refusal: u8,
-    pub frame: Found,
+    pub frame: MaybeFrame,
     pub bits: usize,
 }
 
@@ -109,26 +103,26 @@ fn no_frame(refusal: u8) -> FrameTaken
 {
     FrameTaken {
         refusal,
-        frame: Found::None,
+        frame: MaybeFrame::None,
         bits: 0,
     }
 }
 
-// Operation: the frame at a bit of an image.
+// Operation: the frame at a bit of an image; and its 13 numbers are those of the definition's frame.
 pub fn frame_taken(image: &[u8], bit: usize) -> FrameTaken
     ensures { λ r. ⌜ r ≡ frameTakenOf pitchBits (now (image .entry)) bit ⌝ }
+    ensures { λ r. ⌜ numbersOf (r .frame) ≡ numbersOf (frameTakenOf pitchBits (now (image .entry)) bit .frame) ⌝ }
 {
     let fault = image_fault(image, image.len() <= bit / 8);
     if fault != TAKEN {
         return no_frame(fault);
     }
-    let taken = frame_at(image, bit, PITCH_BITS);
-    let Taken::Whole(f, next) = taken else {
+    let FrameAnswer::Whole(frame, next) = frame_at(image, bit, PITCH_BITS) else {
         return no_frame(NO_PHRASE);
     };
     FrameTaken {
         refusal: TAKEN,
-        frame: Found::Some(f),
+        frame: MaybeFrame::Some(frame),
         bits: next - bit,
     }
 }

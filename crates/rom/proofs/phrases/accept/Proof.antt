@@ -8,5 +8,6 @@ accept-spec =
     tie.close
     (tie.spec
     (λ c κs. search needs)
-    (λ c κs. rw (c .intervals .ensures) (search needs))
-    (λ c. rw (c .samples .ensures, c .before .intervals .ensures)))
+    (λ c κs. search needs)
+    (λ c κs. rw (c .intervals .ensures, c .before .of .ensures) (search needs))
+    (λ c. rw (c .samples .ensures, c .before .intervals .ensures, c .before .before .of .ensures)))
