@@ -1,4 +1,4 @@
--- `lent::next_field` meets its contract: a walk of its MIR, by hand, with the steps of `Held.antt`. The borrow is opened; `field_at` is called; the position is stored; and the borrow is closed at the reader that has moved on. All that the proof knows of `field_at` is that it meets its contract.
+-- `bit_reader::next_field` meets its contract: a walk of its MIR, by hand, with the steps of `Held.antt`. The borrow is opened; `field_at` is called; the position is stored; and the borrow is closed at the reader that has moved on. All that the proof knows of `field_at` is that it meets its contract.
 -- Assumes nothing.
 use mathlib.Core.Path.{_≡_, refl}
 use Prim.Native.Nat.{ℕ, _<_, _≤_, _^_, _+_}
@@ -35,16 +35,16 @@ use denote.Triple.Table.{entered, cited}
 use denote.Triple.Walked.{says, needs, Stays, stay-ref, stay-none, walkOf, goes-none, goes-ref, Walks, ends-at, walked, walk-meets}
 use denote.Exit.{yes}
 use Rattle.rom.specs.Bits.{field}
-use Rattle.lent.specs.declared.Reader.{Reader}
-use Rattle.lent.proofs.Held.{ReaderType, Token, behind, moved, args, vals, asked, opened, called, closed}
+use Rattle.bit_reader.specs.declared.Reader.{Reader}
+use Rattle.bit_reader.proofs.Held.{ReaderType, Token, behind, moved, args, vals, asked, opened, called, closed}
 use Rattle.rom.proofs.bits.field_at as field-at
 use Rattle.rom.proofs.bits.field_at.Symbol as field-at-def
 use Rattle.rom.proofs.bits.field_at.Symbol.{name as #field-at}
 use Rattle.rom.proofs.bits.field_at.Met as field-at-thm
-use Rattle.lent.proofs.next_field.Key.{name as #next-field}
-use Rattle.lent.proofs.next_field as next-field
-use Rattle.lent.proofs.next_field.Statement as stated
-use Rattle.lent.proofs.next_field.Code as code
+use Rattle.bit_reader.proofs.next_field.Key.{name as #next-field}
+use Rattle.bit_reader.proofs.next_field as next-field
+use Rattle.bit_reader.proofs.next_field.Statement as stated
+use Rattle.bit_reader.proofs.next_field.Code as code
 
 abbrev stayed : Stays (next-field.ended .signature .params) (next-field.ended .kept)
 stayed = (stay-ref (0 ∷ []) tt behind, (stay-none (λ _. usize) yes, tt))

@@ -1,6 +1,6 @@
--- `lent::head_fields` meets its contract: a walk of its MIR, by hand. The reader is made in a local, and lent to `next_field` three times by `Lending.antt`'s `reads`. All that the proof knows of `next_field` is that it meets its contract.
+-- `bit_reader::head_fields` meets its contract: a walk of its MIR, by hand. The reader is made in a local, and lent to `next_field` three times by `Lending.antt`'s `reads`. All that the proof knows of `next_field` is that it meets its contract.
 -- Assumes nothing.
-use mathlib.Core.Path.{refl, ap}
+use mathlib.Core.Path.{_≡_, refl}
 use Prim.Native.Nat.{ℕ, _-_, _<_, _≤_, _^_, _+_}
 use native.Mathlib.Omega.{arith}
 use mathlib.Core.List.{List, [], _∷_}
@@ -36,21 +36,22 @@ use denote.Triple.Table.{entered, cited}
 use denote.Triple.Walked.{says, needs, Stays, stay-none, stay-none-slice, walkOf, goes-none, goes-none-slice, Walks, ends-at, walked, walk-meets}
 use denote.Exit.{yes}
 use Rattle.rom.specs.Bits.{field}
+use Rattle.rom.specs.Reader.{headAt}
 use Rattle.rom.specs.declared.head.Head.{Head}
-use Rattle.lent.specs.declared.Reader.{Reader}
-use Rattle.lent.proofs.Held.{Own, moved}
-use Rattle.lent.proofs.Lending.{NextField, reads}
+use Rattle.bit_reader.specs.declared.Reader.{Reader}
+use Rattle.bit_reader.proofs.Held.{Own, moved}
+use Rattle.bit_reader.proofs.Lending.{NextField, reads}
 use Rattle.rom.proofs.head.Head as Made
 use Rattle.rom.proofs.head.Head.Laws as Made′
-use Rattle.lent.proofs.Reader as T
-use Rattle.lent.proofs.Reader.Laws as T′
-use Rattle.lent.proofs.next_field.Symbol as next-field-def
-use Rattle.lent.proofs.next_field.Symbol.{name as #next-field}
-use Rattle.lent.proofs.next_field.Met as next-field-thm
-use Rattle.lent.proofs.head_fields.Key.{name as #head-fields}
-use Rattle.lent.proofs.head_fields as head-fields
-use Rattle.lent.proofs.head_fields.Statement as stated
-use Rattle.lent.proofs.head_fields.Code as code
+use Rattle.bit_reader.proofs.Reader as T
+use Rattle.bit_reader.proofs.Reader.Laws as T′
+use Rattle.bit_reader.proofs.next_field.Symbol as next-field-def
+use Rattle.bit_reader.proofs.next_field.Symbol.{name as #next-field}
+use Rattle.bit_reader.proofs.next_field.Met as next-field-thm
+use Rattle.bit_reader.proofs.head_fields.Key.{name as #head-fields}
+use Rattle.bit_reader.proofs.head_fields as head-fields
+use Rattle.bit_reader.proofs.head_fields.Statement as stated
+use Rattle.bit_reader.proofs.head_fields.Code as code
 
 abbrev stayed : Stays (head-fields.ended .signature .params) (head-fields.ended .kept)
 stayed = (stay-none-slice (0 ∷ []) tt (plain (λ _. u8)) yes, (stay-none (λ _. usize) yes, (stay-none (λ _. usize) yes, tt)))
@@ -79,6 +80,9 @@ module _ {M : Type 1} (𝓤 : URA M) (H : Heap 𝓤) (A : Atoms 𝓤) (W : Given
   abbrev made : Head
   made = record { energy = field (now s) m 4; repeat = field (now s) (m + 4) 1; pitch = field (now s) (m + 4 + 1) n }
 
+  made-is : made ≡ headAt n (now s) m
+  made-is = let e : m + 4 + 1 ≡ m + 5 = omega arith in rw e
+
   abbrev Post : Val → SProp 𝓤
   Post = walkOf 𝓤 H A head-fields.ended stayed (head-fields.clauses 𝓤 H A mem run) .post (((κ, tt), (q, tt), tt, a, vals), tt)
 
@@ -95,7 +99,7 @@ module _ {M : Type 1} (𝓤 : URA M) (H : Heap 𝓤) (A : Atoms 𝓤) (W : Given
   exits f₀ f₁ f₂ =
       qed W (‵ (flft κ q) ∷ ‵ Image ∷ []) ∵
       suffices ! _ (ends-at 𝓤 H A head-fields.ended stayed (head-fields.clauses 𝓤 H A mem run) W (((κ, tt), (q, tt), tt, a, vals), tt) (Made′.lowered made) made (tt, (tt, (tt, tt))) (tt, (tt, (tt, tt)))) $
-      says ! (refl, refl, ap (λ (p : ℕ). field (now s) p n) (omega arith)) $ nothing ! $ move ! (1 ∷ 0 ∷ []) $ join ! $ frame ! $
+      says ! made-is $ nothing ! $ move ! (1 ∷ 0 ∷ []) $ join ! $ frame ! $
       nothing ! $ owned ! usize (Is usize) (uint-makes 𝓤 H A W w64) n _ (refl, n-fits) $ fjoin ! $ owned ! usize (Is usize) (uint-makes 𝓤 H A W w64) m _ (refl, m-fits) $ fjoin ! $ move ! (1 ∷ 0 ∷ []) $ fjoin ! $ frame ! $
       nothing ! $ owned ! u8 (Is u8) (uint-makes 𝓤 H A W w8) (made .pitch) _ (refl, f₂) $ fjoin ! $ owned ! u8 (Is u8) (uint-makes 𝓤 H A W w8) (made .repeat) _ (refl, f₁) $ fjoin ! $
       owned ! u8 (Is u8) (uint-makes 𝓤 H A W w8) (made .energy) _ (refl, f₀) $ fjoin ! $ by ! (own-shut 𝓤 H A W Made.the-type Made′.the-laws (made .energy, (made .repeat, (made .pitch, tt))))
@@ -142,4 +146,4 @@ head-fields-spec 𝓤 H 𝓜 𝓖 𝓡 =
     entered 𝓤 H (tripleOf 𝓤 H (𝓖 .A) head-fields.signature (head-fields.spec 𝓤 H (𝓖 .A) (𝓜 .mem) (𝓡 .run)))
     (tables 𝓤 H 𝓜 𝓡 code.env .C) (tables 𝓤 H 𝓜 𝓡 code.env .Λ) #head-fields code.function (code.unfolded 𝓤 H 𝓜 𝓡)
     (head-fields-meets 𝓤 H (𝓖 .A) (givenOf 𝓤 H 𝓜 𝓖) (𝓜 .mem) (𝓡 .run) (tablesOf 𝓤 H 𝓜 (tables 𝓤 H 𝓜 𝓡 code.env))
-    (cited 𝓤 H (NextField 𝓤 H (𝓖 .A) (𝓜 .mem) (𝓡 .run)) 𝓜 𝓡 code.env #next-field next-field-def.routine code.calls-lent·next-field (next-field-thm.met 𝓤 H 𝓜 𝓖 𝓡)))
+    (cited 𝓤 H (NextField 𝓤 H (𝓖 .A) (𝓜 .mem) (𝓡 .run)) 𝓜 𝓡 code.env #next-field next-field-def.routine code.calls-bit-reader·next-field (next-field-thm.met 𝓤 H 𝓜 𝓖 𝓡)))
