@@ -15,18 +15,18 @@ use Rattle.voice.specs.Layout.{entryAt}
 use Rattle.voice.specs.Check.{unsignedValid, entryValid, entriesValid}
 use Rattle.voice.specs.declared.layout.Table.{Table}
 
-module _ (N : ℕ) (file : List ℕ) (t : Table) where
+module _ (P : ℕ) (file : List ℕ) (t : Table) where
   -- one entry more
-  pub entries-suc : (n : ℕ) → entriesValid N file t (n + 1) ≡ (entriesValid N file t n && entryValid t n (entryAt N file t n))
+  pub entries-suc : (n : ℕ) → entriesValid P file t (n + 1) ≡ (entriesValid P file t n && entryValid t n (entryAt P file t n))
   unfolding entriesValid
   entries-suc n = rw (add-one n)
 
   -- each of a table's first n entries is in range where all are
-  pub each-valid : (n : ℕ) → entriesValid N file t n ≡ true → (i : ℕ) → i < n → entryValid t i (entryAt N file t i) ≡ true
+  pub each-valid : (n : ℕ) → entriesValid P file t n ≡ true → (i : ℕ) → i < n → entryValid t i (entryAt P file t i) ≡ true
   unfolding entriesValid
   each-valid zero e i h = absurd (omega arith)
   each-valid (suc n) e i h =
-      let b = both-true (entriesValid N file t n) (entryValid t n (entryAt N file t n)) e in
+      let b = both-true (entriesValid P file t n) (entryValid t n (entryAt P file t n)) e in
       ⊎-elim (λ p. rw p (b .1)) (λ l. each-valid n (b .0) i l) (eq-or-lt-of-le {n = i} {m = n} (omega arith))
 
 -- an energy or a pitch in range is at most 1023

@@ -2,16 +2,15 @@
 -- Assumes nothing.
 use mathlib.Core.Path.{_≡_, ap}
 use mathlib.Core.List.{List, [], _∷_}
-use Prim.Native.Nat.{ℕ, zero, suc, _+_, _*_, _≤_, _<_}
+use Prim.Native.Nat.{ℕ, zero, suc, _+_, _≤_, _<_}
 use native.Mathlib.Omega.{arith}
 use borrow.Author.Tests.{lt-ltb, le-ltb}
 use lib.IntN.{ℤ, pos}
 use lib.ListN.{length, getD, take}
+use lib.Pow.{pow-mono}
 use lib.Seq.{take-all, take-nil}
 use Rattle.base.specs.Bytes.{byteAt}
-use Rattle.voice.specs.Layout.{signedByte, total, kCounts, kBegin, tableStart, countAt, pulseAt}
-use Rattle.voice.specs.declared.layout.Table.{Table}
-use Rattle.voice.specs.declared.layout.Table.the-variants.{Energy, Pitch, K}
+use Rattle.voice.specs.Layout.{pitches, signedByte, total, kCounts, kBegin, countAt, pulseAt}
 
 -- where each of several tables begins, of which the first begins at a
 abbrev pub begins : ℕ → List ℕ → List ℕ
@@ -36,11 +35,9 @@ k-place [] n i h = absurd (omega arith)
 k-place (m ∷ ns) zero i h = omega arith
 k-place (m ∷ ns) (suc n) i h = omega (arith, k-place ns n i h)
 
--- the last table starts last
-pub table-start-le : (N : ℕ) (t : Table) → tableStart N t ≤ 33 + 2 * N
-table-start-le N Energy = omega arith
-table-start-le N Pitch = omega arith
-table-start-le N K = omega arith
+-- an index of at most 8 bits has at most 256 values
+pub pitches-most : {P : ℕ} → P ≤ 8 → pitches P ≤ pitches 8
+pitches-most h = pow-mono h
 
 -- no K begins past the last K value
 pub total-take-le : (ns : List ℕ) (n : ℕ) → total (take n ns) ≤ total ns
@@ -49,11 +46,11 @@ total-take-le (m ∷ ns) zero = omega arith
 total-take-le (m ∷ ns) (suc n) = omega (arith, total-take-le ns n)
 
 -- the pulse at a place, by where the count stands and what it is
-module _ (N : ℕ) (file : List ℕ) {start count place : ℕ} (s : start ≡ countAt N) (e : count ≡ byteAt file start) where
-  pub pulse-within : {b : ℕ} {z : ℤ} → place < count → b ≡ byteAt file (start + 1 + place) → z ≡ signedByte b → z ≡ pulseAt N file place
+module _ (P : ℕ) (file : List ℕ) {start count place : ℕ} (s : start ≡ countAt P) (e : count ≡ byteAt file start) where
+  pub pulse-within : {b : ℕ} {z : ℤ} → place < count → b ≡ byteAt file (start + 1 + place) → z ≡ signedByte b → z ≡ pulseAt P file place
   unfolding pulseAt
   pulse-within h p q = rw (← s, ← e, lt-ltb place count h, q, p)
 
-  pub pulse-past : count ≤ place → pos 0 ≡ pulseAt N file place
+  pub pulse-past : count ≤ place → pos 0 ≡ pulseAt P file place
   unfolding pulseAt
   pulse-past h = rw (← s, ← e, le-ltb place count h)

@@ -13,21 +13,21 @@ use Rattle.voice.specs.Layout.{lengthWith, lengthField, pulseStart, puls
 use Rattle.voice.specs.Check.{pulseLimit, pulseFault}
 use Rattle.voice.specs.Valid.{PulsesEndFile}
 
-pub pulses-end-file : (N : ℕ) (file : List ℕ) → PulsesEndFile N file
-pulses-end-file N file s l =
-    let sizes = neither (ltb (length file) (pulseStart N + 1)) (ltb (pulseStart N + pulseLimit) (length file)) s in
-    go (eqb (pulseStart N + pulseCount N file) (length file)) refl (ltb-false _ _ (sizes .0)) (ltb-false _ _ (sizes .1))
+pub pulses-end-file : (P : ℕ) (file : List ℕ) → PulsesEndFile P file
+pulses-end-file P file s l =
+    let sizes = neither (ltb (length file) (pulseStart P + 1)) (ltb (pulseStart P + pulseLimit) (length file)) s in
+    go (eqb (pulseStart P + pulseCount P file) (length file)) refl (ltb-false _ _ (sizes .0)) (ltb-false _ _ (sizes .1))
     (eqb-true _ _ (not-false _ l))
   where
-    go : (b : Bool) → eqb (pulseStart N + pulseCount N file) (length file) ≡ b → pulseStart N + 1 ≤ length file
-        → length file ≤ pulseStart N + pulseLimit → lengthField file + 2 ≡ length file → pulseFault N file ≡ not b
+    go : (b : Bool) → eqb (pulseStart P + pulseCount P file) (length file) ≡ b → pulseStart P + 1 ≤ length file
+        → length file ≤ pulseStart P + pulseLimit → lengthField file + 2 ≡ length file → pulseFault P file ≡ not b
     go true e least most field =
-        let end = eqb-true (pulseStart N + pulseCount N file) (length file) e in
+        let end = eqb-true (pulseStart P + pulseCount P file) (length file) e in
         rw (
-          ne-eqb (pulseCount N file) 0 (λ z. omega arith),
-          le-ltb pulseLimit (pulseCount N file) (omega arith),
-          eq-eqb (lengthField file) (lengthWith N (pulseCount N file)) (omega arith),
+          ne-eqb (pulseCount P file) 0 (λ z. omega arith),
+          le-ltb pulseLimit (pulseCount P file) (omega arith),
+          eq-eqb (lengthField file) (lengthWith P (pulseCount P file)) (omega arith),
         )
     go false e least most field =
-        let end = eqb-false (pulseStart N + pulseCount N file) (length file) e in
-        rw (ne-eqb (lengthField file) (lengthWith N (pulseCount N file)) (λ z. end (omega arith)), or-true)
+        let end = eqb-false (pulseStart P + pulseCount P file) (length file) e in
+        rw (ne-eqb (lengthField file) (lengthWith P (pulseCount P file)) (λ z. end (omega arith)), or-true)

@@ -1,7 +1,8 @@
--- The layout of a voice file (01, "Voice file"). A file is the list of its bytes, and N the number of its pitches.
+-- The layout of a voice file (01, "Voice file"). A file is the list of its bytes, and P the width of the pitch field of frames:
+-- the file has a pitch for each index of P bits.
 use mathlib.Core.Bool.{cond}
 use mathlib.Core.List.{List, [], _∷_}
-use Prim.Native.Nat.{ℕ, _+_, _*_, _/_, _%_}
+use Prim.Native.Nat.{ℕ, _+_, _*_, _/_, _%_, _^_}
 use lib.Dec.{ltb}
 use lib.IntN.{ℤ, pos, _-ℤ_}
 use lib.ListN.{take}
@@ -9,13 +10,13 @@ use Rattle.base.specs.Bytes.{byteAt}
 use Rattle.voice.specs.declared.layout.Table.{Table}
 use Rattle.voice.specs.declared.layout.Table.the-variants.{Energy, Pitch, K}
 
--- the pitches of the TMS5220 and TMS5200
-abbrev pub pitches : ℕ
-pitches = 64
+-- how many pitches it has: 64 at 6 bits
+abbrev pub pitches : ℕ → ℕ
+pitches P = 2 ^ P
 
 -- the two bytes from byte `at` on, big-endian
-abbrev pub wordAt : List ℕ → ℕ → ℕ
-wordAt file at = 256 * byteAt file at + byteAt file (at + 1)
+abbrev pub be16 : List ℕ → ℕ → ℕ
+be16 file at = 256 * byteAt file at + byteAt file (at + 1)
 
 -- the bits of n in two's complement: the sign bit, of weight `sign`, counts as -`sign`
 unfoldable pub twosComplement : ℕ → ℕ → ℤ
@@ -42,43 +43,47 @@ total (n ∷ ns) = n + total ns
 abbrev pub kBegin : ℕ → ℕ
 kBegin n = total (take n kCounts)
 
--- how many entries a table has: 15 energies, 64 pitches, 168 K values
-abbrev pub entries : ℕ → Table → ℕ
-entries N Energy = 15
-entries N Pitch = N
-entries N K = total kCounts
+-- the bytes of the length field
+abbrev pub lengthBytes : ℕ
+lengthBytes = 2
 
--- where a table starts: after two bytes of length, the version and the tables before it, two bytes an entry
+-- how many entries a table has: 15 energies, 64 pitches at 6 bits, 168 K values
+abbrev pub entries : ℕ → Table → ℕ
+entries P Energy = 15
+entries P Pitch = pitches P
+entries P K = total kCounts
+
+-- where a table starts: after the length field, the version byte and the tables before it, two bytes an entry
 abbrev pub tableStart : ℕ → Table → ℕ
-tableStart N Energy = 3
-tableStart N Pitch = 3 + 2 * entries N Energy
-tableStart N K = 3 + 2 * entries N Energy + 2 * entries N Pitch
+tableStart P Energy = lengthBytes + 1
+tableStart P Pitch = lengthBytes + 1 + 2 * entries P Energy
+tableStart P K = lengthBytes + 1 + 2 * entries P Energy + 2 * entries P Pitch
 
 -- where the pulse count stands: after the tables
 abbrev pub countAt : ℕ → ℕ
-countAt N = tableStart N K + 2 * entries N K
+countAt P = tableStart P K + 2 * entries P K
 
 -- where the pulses start: after their count
 abbrev pub pulseStart : ℕ → ℕ
-pulseStart N = countAt N + 1
+pulseStart P = countAt P + 1
 
--- the length field of a file with that many pulses, which is the length of what follows it: version, tables, pulse count and
--- pulses; 496 + count at 64 pitches
+-- the length field of a file with `count` pulses, which is the length of what follows it: version, tables, pulse count and
+-- pulses; 496 + count at 6 bits
 abbrev pub lengthWith : ℕ → ℕ → ℕ
-lengthWith N count = 1 + 2 * (entries N Energy + entries N Pitch + entries N K) + 1 + count
+lengthWith P count = 1 + 2 * (entries P Energy + entries P Pitch + entries P K) + 1 + count
 
 -- the length field
 abbrev pub lengthField : List ℕ → ℕ
-lengthField file = wordAt file 0
+lengthField file = be16 file 0
 
--- the version byte
+-- the version byte, after it
 abbrev pub versionByte : List ℕ → ℕ
-versionByte file = byteAt file 2
+versionByte file = byteAt file lengthBytes
 
-module _ (N : ℕ) (file : List ℕ) where
+module _ (P : ℕ) (file : List ℕ) where
   -- entry i of a table: two bytes, big-endian
   abbrev pub entryAt : Table → ℕ → ℕ
-  entryAt t i = wordAt file (tableStart N t + 2 * i)
+  entryAt t i = be16 file (tableStart P t + 2 * i)
 
   -- the energy at index i, of 0 to 14: energy 15 is the stop, and no table value
   abbrev pub energyAt : ℕ → ℤ
@@ -94,8 +99,8 @@ module _ (N : ℕ) (file : List ℕ) where
 
   -- the pulse count
   abbrev pub pulseCount : ℕ
-  pulseCount = byteAt file (countAt N)
+  pulseCount = byteAt file (countAt P)
 
   -- the pulse table at a place, a signed byte; 0 past its end
   unfoldable pub pulseAt : ℕ → ℤ
-  pulseAt place = cond (ltb place pulseCount) (signedByte (byteAt file (pulseStart N + place))) (pos 0)
+  pulseAt place = cond (ltb place pulseCount) (signedByte (byteAt file (pulseStart P + place))) (pos 0)

@@ -1,4 +1,4 @@
--- What holds of a voice file without a fault. N is the number of its pitches.
+-- What holds of a voice file without a fault. P is the width of the pitch field.
 use mathlib.Core.Path.{_≡_}
 use mathlib.Core.Bool.{false, not}
 use mathlib.Core.List.{List}
@@ -11,14 +11,14 @@ use Rattle.voice.specs.Check.{sizeFault, lengthFault, pulseFault}
 use Rattle.voice.specs.declared.layout.Table.the-variants.{Energy, Pitch}
 
 -- each look-up is in its range (01, "Voice file"; a pulse is a signed byte)
-pub record InRange (N : ℕ) (file : List ℕ) : Type 0 where
-  pub energy : (i : ℕ) → i < entries N Energy → Between 0 1023 (energyAt N file i)
-  pub pitch : (i : ℕ) → i < entries N Pitch → Between 0 1023 (pitchAt N file i)
-  pub k : (n i : ℕ) → i < getD kCounts n 0 → Between 512 511 (kAt N file n i)
-  pub pulse : (place : ℕ) → Between 128 127 (pulseAt N file place)
+pub record InRange (P : ℕ) (file : List ℕ) : Type 0 where
+  pub energy : (i : ℕ) → i < entries P Energy → Between 0 1023 (energyAt P file i)
+  pub pitch : (i : ℕ) → i < entries P Pitch → Between 0 1023 (pitchAt P file i)
+  pub k : (n i : ℕ) → i < getD kCounts n 0 → Between 512 511 (kAt P file n i)
+  pub pulse : (place : ℕ) → Between 128 127 (pulseAt P file place)
 
 -- without faults 5 and 6, fault 9 is that the pulses do not end with the file
 abbrev pub PulsesEndFile : ℕ → List ℕ → Type 0
-PulsesEndFile N file =
-    sizeFault N file ≡ false → lengthFault file ≡ false
-    → pulseFault N file ≡ not (eqb (pulseStart N + pulseCount N file) (length file))
+PulsesEndFile P file =
+    sizeFault P file ≡ false → lengthFault file ≡ false
+    → pulseFault P file ≡ not (eqb (pulseStart P + pulseCount P file) (length file))

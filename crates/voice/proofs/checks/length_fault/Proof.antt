@@ -10,4 +10,4 @@ length-fault-spec =
     (λ c κs. search needs)
     (λ c. search needs)
     (λ c. search needs)
-    (λ c. rw (← c .word-at .ensures)))
+    (λ c. rw (← c .length-field .ensures)))

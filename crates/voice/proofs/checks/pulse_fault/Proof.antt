@@ -13,4 +13,4 @@ pulse-fault-spec =
     (λ c κs. search needs)
     (λ c.
     let b = c .before .before in
-    rw (← b .before .count-at .ensures, ← b .byte-at .ensures, ← c .before .word-at .ensures, ← c .length-with .ensures)))
+    rw (← b .before .count-at .ensures .0, ← b .byte-at .ensures, ← c .before .length-field .ensures, ← c .length-with .ensures)))

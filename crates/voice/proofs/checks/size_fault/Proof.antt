@@ -12,4 +12,4 @@ size-fault-spec =
     (λ c. search needs)
     (λ c. search needs)
     (λ c. search needs)
-    (λ c. rw (← c .count-at .ensures)))
+    (λ c. rw (← c .count-at .ensures .0)))

@@ -10,10 +10,10 @@ use Rattle.voice.proofs.checks.table_valid.Statement.{statement}
 use Rattle.voice.proofs.checks.table_valid.Tie as tie
 
 abbrev Inv-loop : tie.InvT-loop
-Inv-loop file pitches table n valid₀ i₀ valid i = (i ≤ n) × (valid ≡ entriesValid pitches file table i)
+Inv-loop file table pitch-bits n valid₀ i₀ valid i = (i ≤ n) × (valid ≡ entriesValid pitch-bits file table i)
 
 abbrev μ-loop : tie.MeasureT-loop
-μ-loop file pitches table n valid₀ i₀ valid i = n - i
+μ-loop file table pitch-bits n valid₀ i₀ valid i = n - i
 
 loop-holds : tie.Need-loop-holds Inv-loop μ-loop
 unfolding entriesValid
@@ -23,12 +23,12 @@ loop-again : tie.Need-loop-again Inv-loop μ-loop
 loop-again c =
     let b = c .before .before .before in
     let a = b .before .before .before .args in
-    (search needs, rw (entries-suc (a .pitches) (a .file .now) (a .table) (b .loop .i), ← b .loop .inv .1, ← c .before .entry-at .ensures, ← c .entry-valid .ensures))
+    (search needs, rw (entries-suc (a .pitch-bits) (a .file .now) (a .table) (b .loop .i), ← b .loop .inv .1, ← c .before .entry-within .ensures, ← c .entry-valid .ensures))
 
 returns : tie.Need-returns Inv-loop μ-loop
 returns c =
     let a = c .before .before .before .before .args in
-    let h : c .before .loop .i ≡ entries (a .pitches) (a .table) = omega arith in
+    let h : c .before .loop .i ≡ entries (a .pitch-bits) (a .table) = omega arith in
     rw h at (c .before .loop .inv .1)
 
 pub table-valid-spec : {M : Type 1} → statement M

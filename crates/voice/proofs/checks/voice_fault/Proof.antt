@@ -2,7 +2,8 @@
 use borrow.Author.Needs.{needs}
 use mathlib.Core.Path.{sym, _∙_}
 use denote.Ref.{now}
-use Rattle.voice.proofs.Order.{size-first, length-first, version-first, value-first, pulse-first, no-fault}
+use Rattle.base.proofs.Faults.{none, applies, passes}
+use Rattle.voice.proofs.Order.{first-fault}
 use Rattle.voice.proofs.Tables.{tables-whole}
 use Rattle.voice.proofs.checks.voice_fault.Statement.{statement}
 use Rattle.voice.proofs.checks.voice_fault.Tie as tie
@@ -12,16 +13,16 @@ voice-fault-spec =
     tie.close
     (tie.spec
     (λ c κs. search needs)
-    (λ c. search (size-first))
+    (λ c. search (first-fault, applies))
     (λ c κs. search needs)
-    (λ c. search (length-first))
+    (λ c. search (first-fault, applies, passes))
     (λ c κs. search needs)
-    (λ c. search (version-first))
+    (λ c. search (first-fault, applies, passes))
     (λ c κs.
     let b = c .before .before .before .before in
-    let a = b .before .before .before .args in
-    tables-whole (a .pitches) (now (a .file)) (sym (b .before .size-fault .ensures) ∙ b .if1 .left))
-    (λ c. search (value-first))
+    let s = b .before .before .before in
+    (s .pre, tables-whole (s .args .pitch-bits) (now (s .args .file)) (sym (b .before .size-fault .ensures) ∙ b .if1 .left)))
+    (λ c. search (first-fault, applies, passes))
     (λ c κs. search needs)
-    (λ c. search (pulse-first))
-    (λ c. search (no-fault)))
+    (λ c. search (first-fault, applies, passes) depth 7)
+    (λ c. search (first-fault, none, passes) depth 7))

@@ -1,7 +1,5 @@
 -- `voice::layout::entry_at` meets its contract. Assumes nothing.
 use borrow.Author.Needs.{needs}
-use native.Mathlib.Omega.{arith}
-use Rattle.voice.proofs.Places.{table-start-le}
 use Rattle.voice.proofs.layout.entry_at.Statement.{statement}
 use Rattle.voice.proofs.layout.entry_at.Tie as tie
 
@@ -11,8 +9,6 @@ entry-at-spec =
     (tie.spec
     (λ c κs. search needs)
     (λ c. search needs)
-    (λ c.
-    let a = c .before .before .args in
-    omega (arith, table-start-le (a .pitches) (a .table)))
+    (λ c. search needs)
     (λ c κs. search needs)
-    (λ c. rw (← c .before .table-start .ensures) (c .word-at .ensures)))
+    (λ c. rw (← c .before .table-start .ensures .0) (c .be16 .ensures)))

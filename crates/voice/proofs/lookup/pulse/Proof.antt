@@ -19,5 +19,5 @@ pulse-spec =
     (λ c.
     let b = c .before .before .before in
     rw (back (c .signed-byte .result) (c .signed-byte .ok))
-    (pulse-within _ _ (b .before .count-at .ensures) (b .byte-at .ensures) (c .before .before .if1 .taken) (c .before .byte-at2 .ensures) (c .signed-byte .ensures)))
-    (λ c. pulse-past _ _ (c .before .before .count-at .ensures) (c .before .byte-at .ensures) (c .if1 .left)))
+    (pulse-within _ _ (b .before .count-at .ensures .0) (b .byte-at .ensures) (c .before .before .if1 .taken) (c .before .byte-at2 .ensures) (c .signed-byte .ensures)))
+    (λ c. pulse-past _ _ (c .before .before .count-at .ensures .0) (c .before .byte-at .ensures) (c .if1 .left)))
