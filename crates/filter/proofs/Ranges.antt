@@ -7,24 +7,15 @@ use native.Mathlib.Omega.{arith}
 use lib.IntN.{ℤ, pos}
 use lib.ListN.{length, take, getD, set, length-set}
 use lib.Seq.{length-take-le}
-use mir.Syntax.{w32}
-use mir.Val.{toZ, ofZ}
 use Rattle.base.specs.Range.{Between}
-use Rattle.base.proofs.Range.{product, quotient, read, clamped-between}
-use Rattle.filter.specs.Filter.{held, scaled, forward, upperMemory, newMemory}
+use Rattle.base.proofs.Range.{clamped-between}
+use Rattle.filter.specs.Filter.{saturated, forward, upperMemory, newMemory}
 use Rattle.filter.specs.Ranges.{TenBetween}
 use Rattle.filter.specs.Stages.{stageMemory}
 use Rattle.filter.proofs.Lattice.{upper-length}
 
-pub held-range : (z : ℤ) → Between 8192 8191 (held z)
-held-range z = clamped-between 8192 8191 z
-
--- what a call of `scale` gives
-pub scale-is : {k x r : ℤ} → Between 512 511 k → Between 8192 8191 x → r ≡ scaled (toZ w32 (ofZ w32 k)) (toZ w32 (ofZ w32 x))
-    → (r ≡ scaled k x) × Between 4194304 4194304 r
-scale-is {k} {x} h j e =
-    let is = simp (read tt h, read tt j) at e in
-    (is, rw is (quotient (product h j) 512))
+pub saturated-range : (z : ℤ) → Between 8192 8191 (saturated z)
+saturated-range z = clamped-between 8192 8191 z
 
 -- ---- ten numbers
 
@@ -44,12 +35,12 @@ module _ {n p : ℕ} where
 
 -- a stage keeps the memory's range
 pub stage-range : (ks : List ℤ) {ms : List ℤ} (f : ℤ) (i : ℕ) → TenBetween 8192 8191 ms → TenBetween 8192 8191 (stageMemory ks ms f i)
-stage-range ks {ms} f i h = record { size = length-set ms (suc i) _ ∙ h .size; each = set-range ms (suc i) (held-range _) (h .each) }
+stage-range ks {ms} f i h = record { size = length-set ms (suc i) _ ∙ h .size; each = set-range ms (suc i) (saturated-range _) (h .each) }
 
 upper-range : (ks ms : List ℤ) (x : ℤ) (i : ℕ) → Between 8192 8191 (getD (upperMemory ks ms x) i (pos 0))
 upper-range [] ms x i = omega arith
 upper-range (k ∷ ks) [] x i = omega arith
-upper-range (k ∷ ks) (m ∷ ms) x zero = held-range _
+upper-range (k ∷ ks) (m ∷ ms) x zero = saturated-range _
 upper-range (k ∷ ks) (m ∷ ms) x (suc i) = upper-range ks ms x i
 
 -- new memory is in range, whatever the old was
@@ -63,5 +54,5 @@ memory-range ks ms x hk hm =
     all : (ks ms : List ℤ) → length ks ≡ 10 → length ms ≡ 10 → (i : ℕ) → Between 8192 8191 (getD (forward ks ms x ∷ upperMemory ks ms x) i (pos 0))
     all [] ms hk hm i = absurd (omega arith)
     all (k ∷ ks) [] hk hm i = absurd (omega arith)
-    all (k ∷ ks) (m ∷ ms) hk hm zero = held-range _
+    all (k ∷ ks) (m ∷ ms) hk hm zero = saturated-range _
     all (k ∷ ks) (m ∷ ms) hk hm (suc i) = upper-range (k ∷ ks) (m ∷ ms) x i

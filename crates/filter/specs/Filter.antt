@@ -1,25 +1,31 @@
 -- The lattice filter (01, "Sound"), of any number of stages: a list of coefficients K and a list of memories, stage 1 first.
 use mathlib.Core.List.{List, [], _∷_}
-use lib.IntN.{ℤ, pos, negℤ, _+ℤ_, _-ℤ_, _*ℤ_}
+use Prim.Native.Nat.{ℕ}
+use lib.IntN.{ℤ, _+ℤ_, _-ℤ_, _*ℤ_}
 use lib.ListN.{length, take}
 use lib.Signed.{shrZ}
 use Rattle.base.specs.Range.{clamped}
+use Rattle.filter.specs.Ranges.{memoryMin, memoryMax}
 
 -- held to -8192..8191
-abbrev pub held : ℤ → ℤ
-held z = clamped (negℤ (pos 8192)) (pos 8191) z
+abbrev pub saturated : ℤ → ℤ
+saturated z = clamped memoryMin memoryMax z
+
+-- a coefficient counts in 512ths
+abbrev pub kUnit : ℕ
+kUnit = 512
 
 -- floor(k × x / 512)
 abbrev pub scaled : ℤ → ℤ → ℤ
-scaled k x = shrZ (k *ℤ x) 512
+scaled k x = shrZ (k *ℤ x) kUnit
 
 -- forward i, of a stage with Ki = k and old memory i = m, from forward i+1 = f
 abbrev pub forwardOf : ℤ → ℤ → ℤ → ℤ
-forwardOf k m f = held (f -ℤ scaled k m)
+forwardOf k m f = saturated (f -ℤ scaled k m)
 
 -- new memory i+1, of a stage with Ki = k, old memory i = m and forward i = f
 abbrev pub memoryOf : ℤ → ℤ → ℤ → ℤ
-memoryOf k m f = held (m +ℤ scaled k f)
+memoryOf k m f = saturated (m +ℤ scaled k f)
 
 -- forward value 1: each stage's from that of the stage above it, and the last stage's from the input
 abbrev pub forward : List ℤ → List ℤ → ℤ → ℤ

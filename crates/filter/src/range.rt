@@ -2,6 +2,7 @@
 ghost use mathlib.Core.Path.{_≡_};
 ghost use Rattle.base.specs.Range.{inside, clamped};
 ghost use Rattle.filter.specs.Ranges.{tenInside};
+use crate::filter::STAGES;
 
 // z, or the end of low..high that it lies beyond.
 pub fn clamp(z: i32, low: i32, high: i32) -> i32
@@ -24,11 +25,11 @@ pub fn is_inside(z: i32, low: i32, high: i32) -> bool
 }
 
 // Whether each of ten numbers is in low..high.
-pub fn all_inside(zs: [i32; 10], low: i32, high: i32) -> bool
+pub fn all_inside(zs: [i32; STAGES], low: i32, high: i32) -> bool
     ensures { λ r. ⌜ r ≡ tenInside low high zs ⌝ }
 {
     let mut all = true;
-    for i in 0..10 {
+    for i in 0..STAGES {
         let z = zs[i];
         all = all & is_inside(z, low, high);
     }

@@ -8,10 +8,10 @@ use borrow.Fn.Kinds.{In}
 use borrow.Fn.PlainCycle.{Measures, is, falls, and}
 use denote.Ref.{now}
 use Rattle.base.specs.Range.{Between}
-use Rattle.base.proofs.Range.{back, read, passed, wider}
+use Rattle.base.proofs.Range.{back, read, passed}
 use Rattle.filter.specs.Stages.{lowestMemory}
 use Rattle.filter.proofs.Lattice.{lowest-none, lowest-more}
-use Rattle.filter.proofs.Ranges.{held-range, stage-range}
+use Rattle.filter.proofs.Ranges.{saturated-range, stage-range}
 use Rattle.filter.proofs.filter.stages.Reads as stages
 use Rattle.filter.proofs.filter.stages.Kinds as stages-kinds
 use Rattle.filter.proofs.filter.+stages.Lts-stages as stages-lts
@@ -42,12 +42,12 @@ module _ (t : ℕ) where
       let s = c .before .before .before .before in
       let p = s .pre .1 in
       let r = c .before .stage in
-      let f : Between 8192 8191 (r .result) = rw (r .ensures .0) (held-range _) in (
+      let f : Between 8192 8191 (r .result) = rw (r .ensures .0) (saturated-range _) in (
         omega arith,
         (
           p .0,
           rw (rw (read tt (p .2)) at (r .ensures .1)) (stage-range (now (s .args .k)) (s .args .above) (s .args .left - 1) (p .1)),
-          passed tt (wider f tt tt),
+          passed tt f,
           omega arith,
         ),
       )

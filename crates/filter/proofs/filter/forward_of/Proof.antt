@@ -2,27 +2,27 @@
 use borrow.Author.Needs.{needs}
 use mathlib.Core.Path.{_∙_}
 use Rattle.base.proofs.Range.{fits, read, passed, back, wider, difference}
-use Rattle.filter.proofs.Ranges.{scale-is}
 use Rattle.filter.proofs.filter.forward_of.Statement.{statement}
 use Rattle.filter.proofs.filter.forward_of.Tie as tie
 
-sub-hold : tie.Need-sub-hold
-sub-hold c =
+sub-saturate : tie.Need-sub-saturate
+sub-saturate c =
     let h = c .before .pre in
-    let q = scale-is (h .0) (h .1) (c .scale .ensures) .1 in
+    let q = c .scale .ensures .1 in
     simp (read tt (h .2), read tt q) (fits tt (difference (h .2) q))
 
-hold-requires : tie.Need-hold-requires
-hold-requires c κs =
+saturate-requires : tie.Need-saturate-requires
+saturate-requires c κs =
     let h = c .before .pre in
-    let q = scale-is (h .0) (h .1) (c .scale .ensures) .1 in
+    let q = c .scale .ensures .1 in
     simp (read tt (h .2), read tt q) (passed tt (wider (difference (h .2) q) tt tt))
 
 returns : tie.Need-returns
 returns c =
     let h = c .before .before .pre in
-    let s = scale-is (h .0) (h .1) (c .before .scale .ensures) in
-    back _ (c .hold .ok) ∙ (rw (s .0) at (simp (read tt (h .2), read tt (s .1), read tt (difference (h .2) (s .1))) at (c .hold .ensures)))
+    let r = c .before .scale .ensures in
+    let is = simp (read tt (h .0), read tt (h .1)) at (r .0) in
+    back _ (c .saturate .ok) ∙ (rw is at (simp (read tt (h .2), read tt (r .1), read tt (difference (h .2) (r .1))) at (c .saturate .ensures)))
 
 pub forward-of-spec : {M : Type 1} → statement M
-forward-of-spec = tie.close (tie.spec (λ c κs. search needs) sub-hold hold-requires returns)
+forward-of-spec = tie.close (tie.spec (λ c κs. search needs) sub-saturate saturate-requires returns)

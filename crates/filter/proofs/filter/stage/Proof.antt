@@ -8,7 +8,7 @@ use lib.Seq.{set-out}
 use Rattle.base.specs.Range.{Between}
 use Rattle.base.proofs.Range.{read, back, passed}
 use Rattle.filter.specs.Stages.{stageForward}
-use Rattle.filter.proofs.Ranges.{held-range}
+use Rattle.filter.proofs.Ranges.{saturated-range}
 use Rattle.filter.proofs.filter.stage.Statement.{statement}
 use Rattle.filter.proofs.filter.stage.Tie as tie
 
@@ -25,7 +25,7 @@ forward-is c =
 memory-of-requires : tie.Need-memory-of-requires
 memory-of-requires c κs =
     let s = c .before .before .before .before in
-    let f : Between 8192 8191 (c .before .forward-of .result) = rw (forward-is (c .before)) (held-range _) in
+    let f : Between 8192 8191 (c .before .forward-of .result) = rw (forward-is (c .before)) (saturated-range _) in
     (passed tt (s .pre .0 .each (s .args .i)), passed tt (s .pre .1 .each (s .args .i)), passed tt f)
 
 returns : tie.Need-returns
