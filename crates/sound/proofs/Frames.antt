@@ -7,10 +7,9 @@ use native.Mathlib.Omega.{arith}
 use lib.IntN.{ℤ, pos}
 use lib.ListN.{length, getD}
 use Rattle.base.specs.Range.{Between}
-use Rattle.rom.specs.Frames.{pitchBits, Proper}
+use Rattle.rom.specs.Frames.{Proper}
 use Rattle.rom.specs.declared.frames.Frame.{Frame}
 use Rattle.rom.specs.declared.frames.Frame.the-variants.{Silence, Stop, Repeat, Unvoiced, Voiced}
-use Rattle.voice.specs.Layout.{pitches}
 use Rattle.voice.specs.Valid.{InRange}
 use Rattle.filter.specs.Ranges.{TenBetween}
 use Rattle.sound.specs.Targets.{targetsOf}
@@ -34,8 +33,8 @@ nought : {n p : ℕ} → Between n p (pos 0)
 nought = omega arith
 
 -- `fit` is, field by field, that an index fits its width; energy 15 is excluded by the kind
-pub targets-ranges : {file : List ℕ} → InRange pitches file → (f : Frame) → Proper pitchBits f → {old : Params} → ParamsBetween 1023 512 511 old
-    → ParamsBetween 1023 512 511 (targetsOf pitches file f old)
+pub targets-ranges : {P : ℕ} {file : List ℕ} → InRange P file → (f : Frame) → Proper P f → {old : Params} → ParamsBetween 1023 512 511 old
+    → ParamsBetween 1023 512 511 (targetsOf P file f old)
 targets-ranges v Silence proper h = record { energy = nought; pitch = h .pitch; k = h .k }
 targets-ranges v Stop proper h = record { energy = nought; pitch = h .pitch; k = h .k }
 targets-ranges v (Repeat e p) (fit, kind) h = record { energy = v .energy e (kind .1); pitch = v .pitch p (fit .1 .1 .0); k = h .k }
@@ -44,9 +43,10 @@ targets-ranges v (Unvoiced e k1 k2 k3 k4) (fit, kind) h =
     let f2 = f1 .1 in
     let f3 = f2 .1 in
     let f4 = f3 .1 in
+    let silent : Between 0 1023 (pos 0) = nought in
     record {
-      energy = v .energy e (kind .1);
-      pitch = nought;
+      energy = search (v .energy);
+      pitch = silent;
       k = ten _ refl (v .k 0 k1 (f1 .0), (v .k 1 k2 (f2 .0), (v .k 2 k3 (f3 .0), (v .k 3 k4 (f4 .0), (nought, (nought, (nought, (nought, (nought, (nought, tt))))))))));
     }
 targets-ranges v (Voiced e p k1 k2 k3 k4 k5 k6 k7 k8 k9 k10) (fit, kind) h =

@@ -5,6 +5,7 @@ use lib.IntN.{ℤ, _+ℤ_, _-ℤ_}
 use lib.ListN.{getD}
 use lib.Signed.{shrZ}
 use Rattle.base.specs.declared.units.Intervals.{Intervals}
+use Rattle.sound.specs.State.{withCurrent}
 use Rattle.sound.specs.declared.params.Params.{Params}
 use Rattle.sound.specs.declared.state.Sound.{Sound}
 
@@ -31,11 +32,4 @@ towardParams d current target =
 
 -- the sound after the interpolation at an interval: the currents have moved
 unfoldable pub interpolated : Intervals → Sound → Sound
-interpolated interval s =
-    record {
-      current = towardParams (divisor interval) (s .current) (s .target);
-      target = s .target;
-      memory = s .memory;
-      noise = s .noise;
-      pulse = s .pulse;
-    }
+interpolated interval s = withCurrent (towardParams (divisor interval) (s .current) (s .target)) s

@@ -4,10 +4,9 @@ use mathlib.Core.Bool.{true}
 use mathlib.Core.List.{List}
 use Prim.Native.Nat.{ℕ}
 use Rattle.base.specs.declared.units.Intervals.{Intervals}
-use Rattle.rom.specs.Frames.{pitchBits, Proper}
+use Rattle.rom.specs.Frames.{Proper}
 use Rattle.rom.specs.declared.frames.Frame.{Frame}
-use Rattle.voice.specs.Check.{voiceFault, version}
-use Rattle.voice.specs.Layout.{pitches}
+use Rattle.voice.specs.Check.{voiceFault}
 use Rattle.sound.specs.Interpolation.{interpolated}
 use Rattle.sound.specs.Sample.{sampled, soundAfter}
 use Rattle.sound.specs.State.{soundValid, restSound, atRest}
@@ -20,12 +19,12 @@ pub record StaysValid : Type 0 where
   pub rest : soundValid restSound ≡ true
   pub interpolation : (interval : Intervals) (s : Sound) → soundValid s ≡ true
       → soundValid (interpolated interval s) ≡ true
-  pub sample : (N : ℕ) (file : List ℕ) (s : Sound) → soundValid s ≡ true
-      → soundValid (sampled N file s .sound) ≡ true
-  pub samples : (N : ℕ) (file : List ℕ) (n : ℕ) (s : Sound) → soundValid s ≡ true
-      → soundValid (soundAfter N file n s) ≡ true
-  pub targets : (file : List ℕ) (f : Frame) (s : Sound) → voiceFault pitches version file ≡ 0 → Proper pitchBits f
-      → soundValid s ≡ true → soundValid (withTargets pitches file f s) ≡ true
+  pub sample : (P : ℕ) (file : List ℕ) (s : Sound) → soundValid s ≡ true
+      → soundValid (sampled P file s .sound) ≡ true
+  pub samples : (P : ℕ) (file : List ℕ) (n : ℕ) (s : Sound) → soundValid s ≡ true
+      → soundValid (soundAfter P file n s) ≡ true
+  pub targets : (P version : ℕ) (file : List ℕ) (f : Frame) (s : Sound) → voiceFault P version file ≡ 0 → Proper P f
+      → soundValid s ≡ true → soundValid (withTargets P file f s) ≡ true
 
 -- at rest exactly when equal to the sound at rest
 pub record RestExactly (s : Sound) : Type 0 where

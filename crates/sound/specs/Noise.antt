@@ -1,5 +1,13 @@
 -- The noise register (01, "Sound"): it becomes twice itself plus a new bit, modulo 8192.
-use Prim.Native.Nat.{ℕ, _+_, _*_, _/_, _%_, _^_}
+use Prim.Native.Nat.{ℕ, _+_, _*_, _-_, _/_, _%_, _^_}
+
+-- the register has 13 bits
+abbrev pub noiseLimit : ℕ
+noiseLimit = 8192
+
+-- the most that it can be, 8191
+abbrev pub noiseMax : ℕ
+noiseMax = noiseLimit - 1
 
 -- bit k of the register n
 abbrev pub bitOf : ℕ → ℕ → ℕ
@@ -12,4 +20,4 @@ noiseBit n = (bitOf n 12 + bitOf n 3 + bitOf n 2 + bitOf n 0) % 2
 -- twice itself plus the new bit, modulo 8192
 unfoldable pub nextNoise : ℕ → ℕ
 unfolding noiseBit
-nextNoise n = (2 * n + noiseBit n) % 8192
+nextNoise n = (2 * n + noiseBit n) % noiseLimit

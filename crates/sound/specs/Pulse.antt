@@ -4,6 +4,10 @@ use Prim.Native.Nat.{ℕ, _+_}
 use lib.IntN.{ℤ, pos}
 use lib.Signed.{leZ}
 
+-- the most that it can be
+abbrev pub pulseMax : ℕ
+pulseMax = 1022
+
 -- the place after a sample
 abbrev pub nextPulse : ℕ → ℤ → ℕ
 nextPulse place pitch = cond (leZ pitch (pos (place + 1))) 0 (place + 1)

@@ -1,43 +1,37 @@
--- The targets that a frame sets (01, "Sound"). N is the number of pitches of the voice file, 64 here.
+-- The targets that a frame sets (01, "Sound"). P is the width of the pitch field, 6 here.
 use mathlib.Core.List.{List, [], _∷_}
 use Prim.Native.Nat.{ℕ}
 use lib.IntN.{pos}
 use Rattle.rom.specs.declared.frames.Frame.{Frame}
 use Rattle.rom.specs.declared.frames.Frame.the-variants.{Silence, Stop, Repeat, Unvoiced, Voiced}
 use Rattle.voice.specs.Layout.{energyAt, pitchAt, kAt}
+use Rattle.sound.specs.State.{withTarget}
 use Rattle.sound.specs.declared.params.Params.{Params}
 use Rattle.sound.specs.declared.state.Sound.{Sound}
 
 -- Voiced sets all; unvoiced sets pitch 0, K1 to K4, and zeroes K5 to K10; repeat sets energy and pitch; silence and stop
 -- set energy 0 and keep the rest. The energy of an unvoiced frame is set from its index too.
 abbrev pub targetsOf : ℕ → List ℕ → Frame → Params → Params
-targetsOf N file Silence old = record { energy = pos 0; pitch = old .pitch; k = old .k }
-targetsOf N file Stop old = record { energy = pos 0; pitch = old .pitch; k = old .k }
-targetsOf N file (Repeat e p) old = record { energy = energyAt N file e; pitch = pitchAt N file p; k = old .k }
-targetsOf N file (Unvoiced e k1 k2 k3 k4) old =
+targetsOf P file Silence old = record { energy = pos 0; pitch = old .pitch; k = old .k }
+targetsOf P file Stop old = record { energy = pos 0; pitch = old .pitch; k = old .k }
+targetsOf P file (Repeat e p) old = record { energy = energyAt P file e; pitch = pitchAt P file p; k = old .k }
+targetsOf P file (Unvoiced e k1 k2 k3 k4) old =
     record {
-      energy = energyAt N file e;
+      energy = energyAt P file e;
       pitch = pos 0;
       k =
-          kAt N file 0 k1 ∷ kAt N file 1 k2 ∷ kAt N file 2 k3 ∷ kAt N file 3 k4
+          kAt P file 0 k1 ∷ kAt P file 1 k2 ∷ kAt P file 2 k3 ∷ kAt P file 3 k4
           ∷ pos 0 ∷ pos 0 ∷ pos 0 ∷ pos 0 ∷ pos 0 ∷ pos 0 ∷ [];
     }
-targetsOf N file (Voiced e p k1 k2 k3 k4 k5 k6 k7 k8 k9 k10) old =
+targetsOf P file (Voiced e p k1 k2 k3 k4 k5 k6 k7 k8 k9 k10) old =
     record {
-      energy = energyAt N file e;
-      pitch = pitchAt N file p;
+      energy = energyAt P file e;
+      pitch = pitchAt P file p;
       k =
-          kAt N file 0 k1 ∷ kAt N file 1 k2 ∷ kAt N file 2 k3 ∷ kAt N file 3 k4 ∷ kAt N file 4 k5 ∷ kAt N file 5 k6
-          ∷ kAt N file 6 k7 ∷ kAt N file 7 k8 ∷ kAt N file 8 k9 ∷ kAt N file 9 k10 ∷ [];
+          kAt P file 0 k1 ∷ kAt P file 1 k2 ∷ kAt P file 2 k3 ∷ kAt P file 3 k4 ∷ kAt P file 4 k5 ∷ kAt P file 5 k6
+          ∷ kAt P file 6 k7 ∷ kAt P file 7 k8 ∷ kAt P file 8 k9 ∷ kAt P file 9 k10 ∷ [];
     }
 
 -- the sound with the targets of a frame
 abbrev pub withTargets : ℕ → List ℕ → Frame → Sound → Sound
-withTargets N file f s =
-    record {
-      current = s .current;
-      target = targetsOf N file f (s .target);
-      memory = s .memory;
-      noise = s .noise;
-      pulse = s .pulse;
-    }
+withTargets P file f s = withTarget (targetsOf P file f (s .target)) s

@@ -4,22 +4,25 @@ ghost use mathlib.Core.Bool.{true};
 ghost use mathlib.Core.List.{zipWith};
 ghost use Prim.Native.Nat.{_<_, _^_};
 ghost use Rattle.base.specs.Range.{Between};
+ghost use Rattle.base.specs.Units.{intervalsPerFrame};
 ghost use Rattle.filter.specs.Ranges.{TenBetween};
 ghost use Rattle.sound.specs.Interpolation.{towardBy, towardParams, divisor, interpolated};
 ghost use Rattle.sound.specs.State.{paramsValid, soundValid};
 use crate::params::Params;
 use crate::state::Sound;
+use base::units::Frames;
 use base::units::Intervals;
+use filter::filter::STAGES;
 
 // The divisors 8, 8, 8, 4, 4, 2, 2, 1 of the intervals, as powers of two.
-const SHIFTS: [u32; 8] = [3, 3, 3, 2, 2, 1, 1, 0];
+const SHIFTS: [u32; Frames::INTERVALS as usize] = [3, 3, 3, 2, 2, 1, 1, 0];
 
 // The shift of an interval.
 fn shift_of(interval: Intervals) -> u32
-    requires { ⌜ interval .0 < 8 ⌝ }
+    requires { ⌜ interval .0 < intervalsPerFrame ⌝ }
     ensures { λ r. ⌜ (r < 4) × (2 ^ r ≡ divisor interval) ⌝ }
 {
-    let i = interval.0 as usize;
+    let i = interval.count() as usize;
     SHIFTS[i]
 }
 
@@ -32,12 +35,12 @@ fn toward(current: i32, target: i32, shift: u32) -> i32
 }
 
 // Each K moved towards its target.
-fn toward_each(current: [i32; 10], target: [i32; 10], shift: u32) -> [i32; 10]
+fn toward_each(current: [i32; STAGES], target: [i32; STAGES], shift: u32) -> [i32; STAGES]
     requires { ⌜ (TenBetween 512 511 current) × (TenBetween 512 511 target) × (shift < 4) ⌝ }
     ensures { λ r. ⌜ r ≡ zipWith (towardBy (2 ^ shift)) current target ⌝ }
 {
     let mut r = current;
-    for i in 0..10 {
+    for i in 0..STAGES {
         let c = current[i];
         let t = target[i];
         r[i] = toward(c, t, shift);
@@ -63,19 +66,11 @@ impl Params {
 impl Sound {
     // The sound after the interpolation at an interval of a frame.
     pub fn interpolate(self, interval: Intervals) -> Sound
-        requires { ⌜ (soundValid self ≡ true) × (interval .0 < 8) ⌝ }
+        requires { ⌜ (soundValid self ≡ true) × (interval .0 < intervalsPerFrame) ⌝ }
         ensures { λ r. ⌜ r ≡ interpolated interval self ⌝ }
     {
         let from = self.current;
-        let target = self.target;
-        let memory = self.memory;
-        let current = from.toward(target, shift_of(interval));
-        Sound {
-            current,
-            target,
-            memory,
-            noise: self.noise,
-            pulse: self.pulse,
-        }
+        let to = self.target;
+        self.with_current(from.toward(to, shift_of(interval)))
     }
 }

@@ -1,6 +1,7 @@
 // The parameters of the sound, which are its currents or its targets, and their ranges.
 ghost use mathlib.Core.Path.{_≡_};
 ghost use Rattle.sound.specs.State.{paramsInside, paramsValid, zeroParams};
+use filter::filter::STAGES;
 use filter::range::all_inside;
 use filter::range::is_inside;
 
@@ -8,16 +9,16 @@ use filter::range::is_inside;
 pub struct Params {
     pub energy: i32,
     pub pitch: i32,
-    pub k: [i32; 10],
+    pub k: [i32; STAGES],
 }
 
 impl Params {
-    // The most that energy and pitch can be. The least is 0.
-    pub const MAX: i32 = 1023;
+    // The most that energy and pitch can be, which is the most in a voice file. The least is 0.
+    pub const MAX: i32 = voice::checks::VALUE_MAX as i32;
 
-    pub const K_MIN: i32 = -512;
+    pub const K_MIN: i32 = voice::checks::K_MIN;
 
-    pub const K_MAX: i32 = 511;
+    pub const K_MAX: i32 = voice::checks::K_MAX;
 
     // Whether energy and pitch are in 0..top and each K in low..high.
     fn is_inside(self, top: i32, low: i32, high: i32) -> bool

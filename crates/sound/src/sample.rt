@@ -1,24 +1,33 @@
 // One sample of the sound, and samples one after another.
 ghost use mathlib.Core.Path.{_≡_};
 ghost use mathlib.Core.Bool.{true};
+ghost use Prim.Native.Nat.{_≤_};
 ghost use lib.ListN.{length};
 ghost use Rattle.base.specs.Range.{Between};
-ghost use Rattle.voice.specs.Layout.{pitches};
 ghost use Rattle.filter.specs.Filter.{forward, newMemory};
 ghost use Rattle.filter.specs.Ranges.{TenBetween};
-ghost use Rattle.sound.specs.Sample.{isVoiced, excitationOf, inputOf, valueOf, sampled, soundAfter, valuesOf};
+ghost use Rattle.sound.specs.Sample.{isVoiced, excitationOf, inputOf, valueOf, renewed, sampled, soundAfter, valuesOf};
 ghost use Rattle.sound.specs.State.{soundValid};
 use crate::noise::next_noise;
 use crate::pulse::next_pulse;
 use crate::state::Sound;
+use filter::filter::STAGES;
 use filter::filter::filter;
 use filter::range::clamp;
 use voice::lookup::pulse;
 
 // The range of a sample: 10 signed bits.
-const VALUE_MIN: i32 = -512;
+const SAMPLE_MIN: i32 = -512;
 
-const VALUE_MAX: i32 = 511;
+const SAMPLE_MAX: i32 = 511;
+
+// The excitation of noise, down or up.
+const NOISE_LOW: i32 = -64;
+
+const NOISE_HIGH: i32 = 64;
+
+// An excitation counts in 64ths.
+const EXCITATION_SHIFT: i32 = 6;
 
 // The sound after a sample, and the sample.
 pub struct Sampled {
@@ -27,26 +36,27 @@ pub struct Sampled {
 }
 
 // The excitation: the pulse at the pulse place, or noise.
-fn excitation(file: &[u8], voiced: bool, place: u32, noise: u32) -> i32
-    ensures { λ r. ⌜ r ≡ excitationOf pitches (now (file .entry)) voiced place noise ⌝ }
+fn excitation(file: &[u8], voiced: bool, place: u32, noise: u32, pitch_bits: usize) -> i32
+    requires { ⌜ «pitch_bits» ≤ 8 ⌝ }
+    ensures { λ r. ⌜ r ≡ excitationOf «pitch_bits» (now (file .entry)) voiced place noise ⌝ }
 {
     if voiced {
-        pulse(file, place)
+        pulse(file, place, pitch_bits)
     } else if noise % 2 == 1 {
-        -64
+        NOISE_LOW
     } else {
-        64
+        NOISE_HIGH
     }
 }
 
 // A sample's value, from the excitation; the memory is renewed.
-fn filtered(k: &[i32; 10], memory: &mut [i32; 10], energy: i32, excitation: i32) -> i16
+fn filtered(k: &[i32; STAGES], memory: &mut [i32; STAGES], energy: i32, excitation: i32) -> i16
     requires { ⌜ (TenBetween 512 511 (now k)) × (TenBetween 8192 8191 (now memory)) × (Between 0 1023 energy) × (Between 128 127 excitation) ⌝ }
     ensures { λ r. ⌜ r ≡ valueOf (forward (now (k .entry)) (now (memory .entry)) (inputOf energy excitation)) ⌝ }
     ensures { λ r. ⌜ now (memory .exit) ≡ newMemory (now (k .entry)) (now (memory .entry)) (inputOf energy excitation) ⌝ }
 {
-    let input = energy * excitation >> 6;
-    clamp(filter(k, memory, input), VALUE_MIN, VALUE_MAX) as i16
+    let input = energy * excitation >> EXCITATION_SHIFT;
+    clamp(filter(k, memory, input), SAMPLE_MIN, SAMPLE_MAX) as i16
 }
 
 impl Sound {
@@ -58,37 +68,36 @@ impl Sound {
         target.pitch != 0
     }
 
+    // The sound with the parts that a sample renews.
+    fn renew(self, memory: [i32; STAGES], noise: u32, pulse: u32) -> Sound
+        ensures { λ r. ⌜ r ≡ renewed memory noise pulse self ⌝ }
+    {
+        self.with_pulse(pulse).with_noise(noise).with_memory(memory)
+    }
+
     // A sample, with the pulses of a voice file.
-    pub fn sample(self, file: &[u8]) -> Sampled
-        requires { ⌜ soundValid self ≡ true ⌝ }
-        ensures { λ r. ⌜ r ≡ sampled pitches (now (file .entry)) self ⌝ }
+    pub fn sample(self, file: &[u8], pitch_bits: usize) -> Sampled
+        requires { ⌜ (soundValid self ≡ true) × («pitch_bits» ≤ 8) ⌝ }
+        ensures { λ r. ⌜ r ≡ sampled «pitch_bits» (now (file .entry)) self ⌝ }
     {
         let current = self.current;
-        let target = self.target;
         let k = current.k;
         let mut memory = self.memory;
-        let x = excitation(file, self.is_voiced(), self.pulse, self.noise);
+        let x = excitation(file, self.is_voiced(), self.pulse, self.noise, pitch_bits);
         let value = filtered(&k, &mut memory, current.energy, x);
         let noise = next_noise(self.noise);
         let pulse = next_pulse(self.pulse, current.pitch);
-        let sound = Sound {
-            current,
-            target,
-            memory,
-            noise,
-            pulse,
-        };
+        let sound = self.renew(memory, noise, pulse);
         Sampled { sound, value }
     }
 
     // A sample for each element of a buffer, without an interpolation between them.
-    pub fn play(self, file: &[u8], out: &mut [i16]) -> Sound
-        requires { ⌜ soundValid self ≡ true ⌝ }
-        ensures { λ r. ⌜ r ≡ soundAfter pitches (now (file .entry)) (length (now (out .entry))) self ⌝ }
-        ensures { λ r. ⌜ now (out .exit) ≡ valuesOf pitches (now (file .entry)) (length (now (out .entry))) self ⌝ }
+    pub fn play(self, file: &[u8], out: &mut [i16], pitch_bits: usize) -> Sound
+        requires { ⌜ (soundValid self ≡ true) × («pitch_bits» ≤ 8) ⌝ }
+        ensures { λ r. ⌜ r ≡ soundAfter «pitch_bits» (now (file .entry)) (length (now (out .entry))) self ⌝ }
+        ensures { λ r. ⌜ now (out .exit) ≡ valuesOf «pitch_bits» (now (file .entry)) (length (now (out .entry))) self ⌝ }
     {
         let current = self.current;
-        let target = self.target;
         let k = current.k;
         let voiced = self.is_voiced();
         let mut memory = self.memory;
@@ -96,18 +105,12 @@ impl Sound {
         let mut pulse = self.pulse;
         let mut i = 0;
         while i < out.len() {
-            let x = excitation(file, voiced, pulse, noise);
+            let x = excitation(file, voiced, pulse, noise, pitch_bits);
             out[i] = filtered(&k, &mut memory, current.energy, x);
             noise = next_noise(noise);
             pulse = next_pulse(pulse, current.pitch);
             i += 1;
         }
-        Sound {
-            current,
-            target,
-            memory,
-            noise,
-            pulse,
-        }
+        self.renew(memory, noise, pulse)
     }
 }

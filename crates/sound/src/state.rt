@@ -1,16 +1,17 @@
-// The state of the sound, its ranges, and the sound at rest.
+// The state of the sound, the sound with one of its parts changed, its ranges, and the sound at rest.
 ghost use mathlib.Core.Path.{_≡_};
-ghost use Rattle.sound.specs.State.{restSound, atRest, soundValid};
+ghost use Rattle.sound.specs.State.{withCurrent, withTarget, withMemory, withNoise, withPulse, restSound, atRest, soundValid};
 use crate::params::Params;
 use filter::filter::MEMORY_MAX;
 use filter::filter::MEMORY_MIN;
+use filter::filter::STAGES;
 use filter::range::all_inside;
 
 // The currents and the targets, the filter's memory, the noise register and the pulse place.
 pub struct Sound {
     pub current: Params,
     pub target: Params,
-    pub memory: [i32; 10],
+    pub memory: [i32; STAGES],
     pub noise: u32,
     pub pulse: u32,
 }
@@ -25,7 +26,7 @@ impl Sound {
     pub fn at_rest() -> Sound
         ensures { λ r. ⌜ r ≡ restSound ⌝ }
     {
-        let zeros = [0i32; 10];
+        let zeros = [0i32; STAGES];
         let params = Params {
             energy: 0,
             pitch: 0,
@@ -40,6 +41,46 @@ impl Sound {
         }
     }
 
+    pub fn with_current(self, current: Params) -> Sound
+        ensures { λ r. ⌜ r ≡ withCurrent current self ⌝ }
+    {
+        let mut sound = self;
+        sound.current = current;
+        sound
+    }
+
+    pub fn with_target(self, target: Params) -> Sound
+        ensures { λ r. ⌜ r ≡ withTarget target self ⌝ }
+    {
+        let mut sound = self;
+        sound.target = target;
+        sound
+    }
+
+    pub fn with_memory(self, memory: [i32; STAGES]) -> Sound
+        ensures { λ r. ⌜ r ≡ withMemory memory self ⌝ }
+    {
+        let mut sound = self;
+        sound.memory = memory;
+        sound
+    }
+
+    pub fn with_noise(self, noise: u32) -> Sound
+        ensures { λ r. ⌜ r ≡ withNoise noise self ⌝ }
+    {
+        let mut sound = self;
+        sound.noise = noise;
+        sound
+    }
+
+    pub fn with_pulse(self, pulse: u32) -> Sound
+        ensures { λ r. ⌜ r ≡ withPulse pulse self ⌝ }
+    {
+        let mut sound = self;
+        sound.pulse = pulse;
+        sound
+    }
+
     // Whether it equals the sound at rest.
     pub fn is_at_rest(self) -> bool
         ensures { λ r. ⌜ r ≡ atRest self ⌝ }
@@ -49,7 +90,9 @@ impl Sound {
         let memory = self.memory;
         current.is_zero()
             & target.is_zero()
-            & (all_inside(memory, 0, 0) & ((self.noise == Self::NOISE_MAX) & (self.pulse == 0)))
+            & all_inside(memory, 0, 0)
+            & (self.noise == Self::NOISE_MAX)
+            & (self.pulse == 0)
     }
 
     // Whether each field is in its range.
@@ -62,7 +105,8 @@ impl Sound {
         let noise = self.noise;
         current.valid()
             & target.valid()
-            & (all_inside(memory, MEMORY_MIN, MEMORY_MAX)
-                & ((1 <= noise) & (noise <= Self::NOISE_MAX) & (self.pulse <= Self::PULSE_MAX)))
+            & all_inside(memory, MEMORY_MIN, MEMORY_MAX)
+            & ((1 <= noise) & (noise <= Self::NOISE_MAX))
+            & (self.pulse <= Self::PULSE_MAX)
     }
 }

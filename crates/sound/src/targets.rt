@@ -1,6 +1,6 @@
 // The targets that a frame sets.
 ghost use mathlib.Core.Path.{_≡_};
-ghost use Rattle.voice.specs.Layout.{pitches};
+ghost use Prim.Native.Nat.{_≤_};
 ghost use Rattle.sound.specs.Targets.{targetsOf, withTargets};
 use crate::params::Params;
 use crate::state::Sound;
@@ -10,8 +10,9 @@ use voice::lookup::k;
 use voice::lookup::pitch;
 
 // The targets of a frame, from a voice file and the targets before it.
-fn targets(file: &[u8], frame: Frame, old: Params) -> Params
-    ensures { λ r. ⌜ r ≡ targetsOf pitches (now (file .entry)) frame old ⌝ }
+fn targets(file: &[u8], frame: Frame, old: Params, pitch_bits: usize) -> Params
+    requires { ⌜ «pitch_bits» ≤ 8 ⌝ }
+    ensures { λ r. ⌜ r ≡ targetsOf «pitch_bits» (now (file .entry)) frame old ⌝ }
 {
     let kept = old.k;
     match frame {
@@ -29,8 +30,8 @@ fn targets(file: &[u8], frame: Frame, old: Params) -> Params
             energy: e,
             pitch: p,
         } => Params {
-            energy: energy(file, e),
-            pitch: pitch(file, p),
+            energy: energy(file, e, pitch_bits),
+            pitch: pitch(file, p, pitch_bits),
             k: kept,
         },
         Frame::Unvoiced {
@@ -40,13 +41,13 @@ fn targets(file: &[u8], frame: Frame, old: Params) -> Params
             k3,
             k4,
         } => Params {
-            energy: energy(file, e),
+            energy: energy(file, e, pitch_bits),
             pitch: 0,
             k: [
-                k(file, 0, k1),
-                k(file, 1, k2),
-                k(file, 2, k3),
-                k(file, 3, k4),
+                k(file, 0, k1, pitch_bits),
+                k(file, 1, k2, pitch_bits),
+                k(file, 2, k3, pitch_bits),
+                k(file, 3, k4, pitch_bits),
                 0,
                 0,
                 0,
@@ -69,19 +70,19 @@ fn targets(file: &[u8], frame: Frame, old: Params) -> Params
             k9,
             k10,
         } => Params {
-            energy: energy(file, e),
-            pitch: pitch(file, p),
+            energy: energy(file, e, pitch_bits),
+            pitch: pitch(file, p, pitch_bits),
             k: [
-                k(file, 0, k1),
-                k(file, 1, k2),
-                k(file, 2, k3),
-                k(file, 3, k4),
-                k(file, 4, k5),
-                k(file, 5, k6),
-                k(file, 6, k7),
-                k(file, 7, k8),
-                k(file, 8, k9),
-                k(file, 9, k10),
+                k(file, 0, k1, pitch_bits),
+                k(file, 1, k2, pitch_bits),
+                k(file, 2, k3, pitch_bits),
+                k(file, 3, k4, pitch_bits),
+                k(file, 4, k5, pitch_bits),
+                k(file, 5, k6, pitch_bits),
+                k(file, 6, k7, pitch_bits),
+                k(file, 7, k8, pitch_bits),
+                k(file, 8, k9, pitch_bits),
+                k(file, 9, k10, pitch_bits),
             ],
         },
     }
@@ -89,19 +90,11 @@ fn targets(file: &[u8], frame: Frame, old: Params) -> Params
 
 impl Sound {
     // The sound with the targets of a frame.
-    pub fn set_targets(self, file: &[u8], frame: Frame) -> Sound
-        ensures { λ r. ⌜ r ≡ withTargets pitches (now (file .entry)) frame self ⌝ }
+    pub fn set_targets(self, file: &[u8], frame: Frame, pitch_bits: usize) -> Sound
+        requires { ⌜ «pitch_bits» ≤ 8 ⌝ }
+        ensures { λ r. ⌜ r ≡ withTargets «pitch_bits» (now (file .entry)) frame self ⌝ }
     {
-        let current = self.current;
         let old = self.target;
-        let memory = self.memory;
-        let target = targets(file, frame, old);
-        Sound {
-            current,
-            target,
-            memory,
-            noise: self.noise,
-            pulse: self.pulse,
-        }
+        self.with_target(targets(file, frame, old, pitch_bits))
     }
 }

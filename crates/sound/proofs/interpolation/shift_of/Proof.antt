@@ -27,7 +27,7 @@ entry (s ∷ ss) (d ∷ ds) t zero h =
 entry (s ∷ ss) (d ∷ ds) t (suc i) h = entry ss ds (and-r (ltb s 4 && eqb (2 ^ s) d) (agree ss ds) t) i (omega arith)
 
 returns : tie.Need-returns
-returns c = entry (3 ∷ 3 ∷ 3 ∷ 2 ∷ 2 ∷ 1 ∷ 1 ∷ 0 ∷ []) divisors tt (c .args .interval .0) (search needs)
+returns c = rw (c .count .ensures) (entry (3 ∷ 3 ∷ 3 ∷ 2 ∷ 2 ∷ 1 ∷ 1 ∷ 0 ∷ []) divisors tt (c .before .args .interval .0) (search needs))
 
 pub shift-of-spec : {M : Type 1} → statement M
-shift-of-spec = tie.close (tie.spec (λ c. search needs) (λ c. search needs) returns)
+shift-of-spec = tie.close (tie.spec (λ c κs. search needs) (λ c. search needs) (λ c. search needs) returns)

@@ -1,5 +1,5 @@
--- `sound::state::Sound::play` meets its contract. The invariant: the pieces are those of the sound after i samples, and the
--- buffer holds these.
+-- `sound::state::Sound::play` meets its contract. The invariant: the sound with memory, noise and pulse place renewed is the one
+-- after i samples, and the buffer has these.
 -- Assumes nothing.
 use borrow.Author.Needs.{needs}
 use mathlib.Core.Path.{_≡_, ap, _∙_}
@@ -12,36 +12,35 @@ use denote.Ref.{now}
 use Rattle.base.specs.Range.{Between}
 use Rattle.base.proofs.Range.{read, passed, back-at}
 use Rattle.base.proofs.Steps.{Filled, filled-none, filled-more, filled-all}
-use Rattle.voice.specs.Layout.{pitches}
-use Rattle.sound.specs.Sample.{isVoiced, excitationOf, sampleStep}
+use Rattle.sound.specs.Sample.{isVoiced, excitationOf, renewed, soundStep}
 use Rattle.sound.specs.declared.state.Sound.{Sound}
-use Rattle.sound.proofs.Samples.{pieces, excitation-range, step-is, sampled-ranges}
+use Rattle.sound.proofs.Samples.{excitation-range, step-is, sampled-ranges}
 use Rattle.sound.proofs.Validity.{SoundRanges, ranges}
 use Rattle.sound.proofs.state.Sound.play.Statement.{statement}
 use Rattle.sound.proofs.state.Sound.play.Tie as tie
 
 abbrev Inv-loop : tie.InvT-loop
-Inv-loop file out₀ current target k voiced memory₀ noise₀ pulse₀ i₀ out memory noise pulse i =
-    Filled (sampleStep pitches file) SoundRanges (pieces current target memory₀ noise₀ pulse₀) (length out₀) out (pieces current target memory noise pulse) i
+Inv-loop self file out₀ pitch-bits current k voiced memory₀ noise₀ pulse₀ i₀ out memory noise pulse i =
+    Filled (soundStep pitch-bits file) SoundRanges self (length out₀) out (renewed memory noise pulse self) i
 
 abbrev μ-loop : tie.MeasureT-loop
-μ-loop file out₀ current target k voiced memory₀ noise₀ pulse₀ i₀ out memory noise pulse i = length out₀ - i
+μ-loop self file out₀ pitch-bits current k voiced memory₀ noise₀ pulse₀ i₀ out memory noise pulse i = length out₀ - i
 
 loop-holds : tie.Need-loop-holds Inv-loop μ-loop
 loop-holds c =
-    let s = c .before .before .before .before .before .before in
-    filled-none (sampleStep pitches (now (s .args .file))) SoundRanges (s .args .self) (now (s .args .out)) (ranges (s .args .self) (s .pre))
+    let s = c .before .before .before .before .before in
+    filled-none (soundStep (s .args .pitch-bits) (now (s .args .file))) SoundRanges (s .args .self) (now (s .args .out)) (ranges (s .args .self) (s .pre .0))
 
 -- what `excitation` gives
-excited : (c : tie.After-excitation Inv-loop μ-loop) → let l = c .before .before .loop in let s = c .before .before .before .before .before .before .before .before .before in
-    c .excitation .result ≡ excitationOf pitches (now (s .args .file)) (isVoiced (s .args .self)) (l .pulse) (l .noise)
+excited : (c : tie.After-excitation Inv-loop μ-loop) → let l = c .before .before .loop in let s = c .before .before .before .before .before .before .before .before in
+    c .excitation .result ≡ excitationOf (s .args .pitch-bits) (now (s .args .file)) (isVoiced (s .args .self)) (l .pulse) (l .noise)
 excited c = rw (c .before .before .before .before .is-voiced .ensures) at (c .excitation .ensures)
 
 excited-range : (c : tie.After-excitation Inv-loop μ-loop) → Between 128 127 (c .excitation .result)
 excited-range c =
     let l = c .before .before .loop in
-    let a = c .before .before .before .before .before .before .before .before .before .args in
-    rw (excited c) (excitation-range pitches (now (a .file)) (isVoiced (a .self)) (l .pulse) (l .noise))
+    let a = c .before .before .before .before .before .before .before .before .args in
+    rw (excited c) (excitation-range (a .pitch-bits) (now (a .file)) (isVoiced (a .self)) (l .pulse) (l .noise))
 
 filtered-requires : tie.Need-filtered-requires Inv-loop μ-loop
 filtered-requires c κs =
@@ -54,19 +53,22 @@ loop-again c =
     let v = c .before .before .before .filtered in
     let x = c .before .before .before .before .before .before .before in
     let l = x .before .before .loop in
-    let s = x .before .before .before .before .before .before .before .before .before in
+    let a = x .before .before .before .before .before .before .before .before .args in
     let ok = l .inv .holds in
     let e = rw (excited x) at (simp (read tt (ok .current .energy), read tt (excited-range x)) at (v .ensures)) in
-    let u = pieces (s .args .self .current) (s .args .self .target) (l .memory) (l .noise) (l .pulse) in
+    let u : Sound = renewed (l .memory) (l .noise) (l .pulse) (a .self) in
     let is =
-    step-is pitches (now (s .args .file)) u
+    step-is (a .pitch-bits) (now (a .file)) u
     (record {
       value = back-at w16 (v .result) (v .ok) ∙ e .0;
       memory = e .1;
       noise = c .before .before .next-noise .ensures;
       pulse = simp (read tt (ok .current .pitch)) at (c .next-pulse .ensures);
     }) in
-    filled-more _ _ _ (l .inv) (omega arith) is (rw (ap (λ (r : Sound × ℤ). r .0) is) (sampled-ranges pitches (now (s .args .file)) u ok))
+    filled-more _ _ _ (l .inv) (omega arith) is (rw (ap (λ (r : Sound × ℤ). r .0) is) (sampled-ranges (a .pitch-bits) (now (a .file)) u ok))
+
+returns : tie.Need-returns Inv-loop μ-loop
+returns c = rw (c .renew .ensures) (filled-all _ _ _ (c .before .before .loop .inv) (omega arith))
 
 pub play-spec : {M : Type 1} → statement M
 play-spec =
@@ -76,7 +78,7 @@ play-spec =
     μ-loop
     (λ c κs. search needs)
     loop-holds
-    (λ c κs. search needs)
+    (λ c κs. c .before .before .before .before .before .before .before .pre .1)
     filtered-requires
     (λ c. search needs)
     (λ c. search needs)
@@ -85,5 +87,6 @@ play-spec =
     (λ c. search needs)
     (λ c. search needs)
     loop-again
+    (λ c κs. search needs)
     (λ c. search needs)
-    (λ c. filled-all _ _ _ (c .before .loop .inv) (omega arith)))
+    returns)

@@ -6,7 +6,6 @@ use mir.Syntax.{w16}
 use denote.Ref.{now}
 use Rattle.base.specs.Range.{Between}
 use Rattle.base.proofs.Range.{read, passed, back-at}
-use Rattle.voice.specs.Layout.{pitches}
 use Rattle.sound.specs.Sample.{isVoiced, excitationOf}
 use Rattle.sound.proofs.Samples.{excitation-range, sampled-is}
 use Rattle.sound.proofs.Validity.{SoundRanges, ranges}
@@ -15,37 +14,39 @@ use Rattle.sound.proofs.state.Sound.sample.Tie as tie
 
 module _ (s : tie.Start) where
   ok : SoundRanges (s .args .self)
-  ok = ranges (s .args .self) (s .pre)
+  ok = ranges (s .args .self) (s .pre .0)
 
 -- what `excitation` gives
-excited : (c : tie.After-excitation) → let s = c .before .before .before .before .before .before .before in
-    c .excitation .result ≡ excitationOf pitches (now (s .args .file)) (isVoiced (s .args .self)) (s .args .self .pulse) (s .args .self .noise)
+excited : (c : tie.After-excitation) → let s = c .before .before .before .before .before .before in
+    c .excitation .result ≡ excitationOf (s .args .pitch-bits) (now (s .args .file)) (isVoiced (s .args .self)) (s .args .self .pulse) (s .args .self .noise)
 excited c = rw (c .before .is-voiced .ensures) at (c .excitation .ensures)
 
 excited-range : (c : tie.After-excitation) → Between 128 127 (c .excitation .result)
 excited-range c =
-    let a = c .before .before .before .before .before .before .before .args in
-    rw (excited c) (excitation-range pitches (now (a .file)) (isVoiced (a .self)) (a .self .pulse) (a .self .noise))
+    let a = c .before .before .before .before .before .before .args in
+    rw (excited c) (excitation-range (a .pitch-bits) (now (a .file)) (isVoiced (a .self)) (a .self .pulse) (a .self .noise))
 
 filtered-requires : tie.Need-filtered-requires
 filtered-requires c κs =
     let x = c .before .before .before in
-    let s = x .before .before .before .before .before .before .before in
+    let s = x .before .before .before .before .before .before in
     (ok s .current .k, ok s .memory, passed tt (ok s .current .energy), passed tt (excited-range x))
 
 returns : tie.Need-returns
 returns c =
-    let v = c .before .before .before .filtered in
-    let x = c .before .before .before .before .before .before .before in
-    let s = x .before .before .before .before .before .before .before in
+    let d = c .before in
+    let v = d .before .before .before .filtered in
+    let x = d .before .before .before .before .before .before .before in
+    let s = x .before .before .before .before .before .before in
     let e = rw (excited x) at (simp (read tt (ok s .current .energy), read tt (excited-range x)) at (v .ensures)) in
-    sampled-is pitches (now (s .args .file)) (s .args .self)
+    rw (c .renew .ensures)
+    (sampled-is (s .args .pitch-bits) (now (s .args .file)) (s .args .self)
     (record {
       value = back-at w16 (v .result) (v .ok) ∙ e .0;
       memory = e .1;
-      noise = c .before .before .next-noise .ensures;
-      pulse = simp (read tt (ok s .current .pitch)) at (c .next-pulse .ensures);
-    })
+      noise = d .before .before .next-noise .ensures;
+      pulse = simp (read tt (ok s .current .pitch)) at (d .next-pulse .ensures);
+    }))
 
 pub sample-spec : {M : Type 1} → statement M
 sample-spec =
@@ -54,6 +55,7 @@ sample-spec =
     (λ c κs. search needs)
     (λ c κs. search needs)
     filtered-requires
-    (λ c κs. omega (arith, ok (c .before .before .before .before .before .before .before .before .before .before .before) .noise-high))
-    (λ c κs. ok (c .before .before .before .before .before .before .before .before .before .before .before .before .before) .pulse)
+    (λ c κs. omega (arith, ok (c .before .before .before .before .before .before .before .before .before .before) .noise-high))
+    (λ c κs. ok (c .before .before .before .before .before .before .before .before .before .before .before .before) .pulse)
+    (λ c κs. search needs)
     returns)

@@ -4,4 +4,4 @@ use Rattle.sound.proofs.state.Sound.set_targets.Statement.{statement}
 use Rattle.sound.proofs.state.Sound.set_targets.Tie as tie
 
 pub set-targets-spec : {M : Type 1} → statement M
-set-targets-spec = tie.close (tie.spec (λ c κs. search needs) (λ c. rw (c .targets .ensures)))
+set-targets-spec = tie.close (tie.spec (λ c κs. search needs) (λ c κs. search needs) (λ c. rw (c .with-target .ensures, c .before .targets .ensures)))
