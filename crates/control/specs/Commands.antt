@@ -5,7 +5,7 @@ use Prim.Native.Nat.{ℕ, _+_, _*_, _/_, _%_}
 use lib.Dec.{eqb, leb}
 use lib.ListN.{length, getD}
 use Rattle.control.specs.Types.{Mode, Idle, Rom, Waiting, External, Command, Nothing, ReadByte, ReadAndBranch, LoadAddress, Speak, SpeakExternal, Reset}
-use Rattle.control.specs.State.{fifoSize}
+use Rattle.fifo.specs.Buffer.{fifoSize}
 
 -- the middle code, weights 40, 20, 10, chooses; the top bit is ignored
 abbrev pub commandOf : ℕ → Command

@@ -1,9 +1,5 @@
 pub mod Types
 pub mod State
-pub mod Counters
 pub mod Validity
-pub mod Addresses
-pub mod Buffer
 pub mod Commands
 pub mod Status
-pub mod Laws

@@ -1,11 +1,11 @@
 -- State ranges (01) of the control.
 use mathlib.Core.Bool.{Bool, true, false, not, _&&_, _||_}
-use mathlib.Core.List.{List, [], _∷_}
 use Prim.Native.Nat.{ℕ}
-use lib.Dec.{eqb, leb}
-use lib.ListN.{length, drop}
-use Rattle.control.specs.Types.{Mode, Idle, Rom, Waiting, External, Place, Fifo, Port, Clock, Control}
-use Rattle.control.specs.State.{positionLimit, fifoSize}
+use lib.Dec.{eqb}
+use Rattle.address.specs.Addresses.{addressValid}
+use Rattle.clock.specs.Counters.{clockValid}
+use Rattle.fifo.specs.Buffer.{fifoInside}
+use Rattle.control.specs.Types.{Mode, Idle, Rom, Waiting, External, Fifo, Port, Control}
 
 -- a speaking mode
 abbrev pub speaks : Mode → Bool
@@ -20,10 +20,6 @@ isIdle Idle = true
 isIdle Rom = false
 isIdle Waiting = false
 isIdle External = false
-
--- next nibble 0..4, position 0..2,097,152
-abbrev pub placeValid : Place → Bool
-placeValid p = leb (p .position) positionLimit && leb (p .nibble) 4
 
 -- FIFO level 0 in idle and ROM speech, 0..8 in waiting, 1..16 in external speech: the least
 abbrev pub leastLevel : Mode → ℕ
@@ -46,32 +42,15 @@ mostUsed Rom = 0
 mostUsed Waiting = 0
 mostUsed External = 7
 
--- each byte is 0
-abbrev pub allZero : List ℕ → Bool
-allZero [] = true
-allZero (b ∷ bs) = eqb b 0 && allZero bs
-
--- unheld bytes 0, of 16
-abbrev pub clearFrom : ℕ → List ℕ → Bool
-clearFrom level bytes = eqb (length bytes) fifoSize && allZero (drop level bytes)
-
 -- the FIFO's ranges
 abbrev pub fifoValid : Mode → Fifo → Bool
-fifoValid m f =
-    leb (leastLevel m) (f .level) && leb (f .level) (mostLevel m) && leb (f .used) (mostUsed m)
-    && clearFrom (f .level) (f .bytes)
+fifoValid m f = fifoInside (leastLevel m) (mostLevel m) (mostUsed m) f
 
 -- pending data: mode idle. No pending data: data byte 0
 abbrev pub portValid : Mode → Port → Bool
-portValid m p = (not (p .pending) || isIdle m) && (p .pending || eqb (p .byte) 0)
-
--- sample 0..24, interval 0..7. Not sounding: both 0, and no speaking mode
-abbrev pub clockValid : Mode → Clock → Bool
-clockValid m t =
-    leb (t .sample .0) 24 && leb (t .interval .0) 7
-    && (t .sounding || (eqb (t .sample .0) 0 && eqb (t .interval .0) 0 && not (speaks m)))
+portValid m p = (not (p .pending) || isIdle m) && (p .pending || eqb (p .«data») 0)
 
 -- the control's ranges
 unfoldable pub controlValid : Control → Bool
 controlValid k =
-    placeValid (k .place) && fifoValid (k .mode) (k .fifo) && portValid (k .mode) (k .port) && clockValid (k .mode) (k .clock)
+    addressValid (k .address) && fifoValid (k .mode) (k .fifo) && portValid (k .mode) (k .port) && clockValid (speaks (k .mode)) (k .clock)

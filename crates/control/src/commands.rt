@@ -3,10 +3,10 @@ ghost use mathlib.Core.Path.{_≡_};
 ghost use Prim.Native.Nat.{_≤_};
 ghost use lib.ListN.{length};
 ghost use Rattle.rom.specs.Bits.{imageLimit};
-ghost use Rattle.control.specs.State.{positionLimit};
+ghost use Rattle.address.specs.Addresses.{positionLimit};
 ghost use Rattle.control.specs.Commands.{commandOf, isReset, waits, beyondAt, beyond};
-use crate::state::Control;
 use crate::state::Mode;
+use fifo::Fifo;
 
 pub enum Command {
     Nothing,
@@ -68,15 +68,15 @@ impl Command {
 }
 
 impl Mode {
-    // Whether a byte of a command waits, with so many bytes held.
+    // Whether a byte of a command waits, with `level` bytes held.
     pub fn waits(self, level: u8, command: Command) -> bool
         ensures { λ r. ⌜ r ≡ waits self level command ⌝ }
     {
         match self {
             Mode::Idle => false,
             Mode::Rom => !command.is_reset(),
-            Mode::Waiting => level == Control::FIFO_SIZE,
-            Mode::External => level == Control::FIFO_SIZE,
+            Mode::Waiting => level == Fifo::SIZE,
+            Mode::External => level == Fifo::SIZE,
         }
     }
 

@@ -1,7 +1,5 @@
-// The control of the chip: its value, its ranges, and what its parts do.
-pub mod addresses;
+// The control of the chip: its value, its ranges, its commands and its status.
 pub mod commands;
-pub mod fifo;
 pub mod state;
 pub mod status;
 pub mod validity;

@@ -2,7 +2,7 @@
 ghost use mathlib.Core.Path.{_≡_};
 ghost use mathlib.Core.Bool.{cond};
 ghost use Prim.Native.Nat.{_≤_};
-ghost use Rattle.control.specs.Status.{statusOf, busByte, noData, acknowledgedPort};
+ghost use Rattle.control.specs.Status.{statusOf, busByte, noData, raisedPort, acknowledgedPort};
 use crate::state::Control;
 use crate::state::Port;
 
@@ -29,7 +29,7 @@ impl Control {
     {
         let port = self.port;
         if port.pending {
-            port.byte
+            port.data
         } else {
             self.status()
         }
@@ -37,25 +37,36 @@ impl Control {
 }
 
 impl Port {
-    pub fn no_data(self) -> Port
+    pub fn drop_data(self) -> Port
         ensures { λ r. ⌜ r ≡ noData self ⌝ }
     {
         Port {
             pending: false,
-            byte: 0,
+            data: 0,
             interrupt: self.interrupt,
         }
     }
 
-    pub fn acknowledged(self) -> Port
+    // The interrupt is set where `on` says so, and stays set.
+    pub fn raise(self, on: bool) -> Port
+        ensures { λ r. ⌜ r ≡ raisedPort on self ⌝ }
+    {
+        Port {
+            pending: self.pending,
+            data: self.data,
+            interrupt: self.interrupt | on,
+        }
+    }
+
+    pub fn acknowledge(self) -> Port
         ensures { λ r. ⌜ r ≡ acknowledgedPort self ⌝ }
     {
         if self.pending {
-            self.no_data()
+            self.drop_data()
         } else {
             Port {
                 pending: self.pending,
-                byte: self.byte,
+                data: self.data,
                 interrupt: false,
             }
         }

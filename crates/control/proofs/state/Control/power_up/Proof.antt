@@ -9,4 +9,5 @@ power-up-spec =
     (tie.spec
     (λ c κs. search needs)
     (λ c κs. search needs)
-    (λ c. rw (c .stopped .ensures, c .before .empty .ensures)))
+    (λ c κs. search needs)
+    (λ c. rw (c .power-up2 .ensures, c .before .empty .ensures, c .before .before .power-up .ensures)))

@@ -1,0 +1,4 @@
+pub mod Ranges
+pub mod Held
+pub mod HeldFrames
+pub mod Shifting

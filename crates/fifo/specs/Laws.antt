@@ -1,0 +1,44 @@
+-- What is proved of the FIFO: what it holds, and which frame is taken from it.
+use mathlib.Core.Path.{_≡_}
+use mathlib.Core.Logic.{_↔_}
+use mathlib.Core.List.{_++_, IsPrefix}
+use Prim.Native.Nat.{ℕ, _+_, _*_, _-_, _<_, _≤_}
+use lib.ListN.{length, take, drop}
+use Rattle.rom.specs.Frames.{Proper, bitsOf}
+use Rattle.rom.specs.Reader.{frameAt}
+use Rattle.rom.specs.declared.frames.Frame.{Frame}
+use Rattle.rom.specs.declared.reader.FrameAnswer.the-variants.{Whole, Cut}
+use Rattle.fifo.specs.declared.Fifo.{Fifo}
+use Rattle.fifo.specs.Buffer.{fifoSize, appended, usedUp, bitsOfByte, heldBits}
+
+-- what a FIFO in its ranges has, in every mode: 16 bytes, of which the level are held, and no more bits used than held
+pub record Fits (f : Fifo) : Type 0 where
+  pub size : length (f .bytes) ≡ fifoSize
+  pub level : f .level ≤ fifoSize
+  pub used : f .«used_bits» ≤ 8 * f .level
+
+-- The FIFO holds eight bits for each byte, less those used.
+abbrev pub HeldLength : Type 0
+HeldLength = (f : Fifo) → Fits f → length (heldBits f) ≡ 8 * f .level - f .«used_bits»
+
+-- A byte more puts its bits after those held.
+abbrev pub HeldAppended : Type 0
+HeldAppended = (f : Fifo) (b : ℕ) → Fits f → f .level < fifoSize → heldBits (appended f b) ≡ heldBits f ++ bitsOfByte b
+
+-- With n bits of those held gone, all of them perhaps, it holds the rest.
+abbrev pub HeldUsed : Type 0
+HeldUsed = (f : Fifo) (n : ℕ) → Fits f → n ≤ length (heldBits f) → heldBits (usedUp f (f .«used_bits» + n)) ≡ drop n (heldBits f)
+
+-- The reader, on the bytes held and from the first bit not used, returns a whole frame g, and `next`, exactly when g is proper,
+-- the bits held begin with g's, and `next` is the bit after them. P is the width of the pitch field.
+abbrev pub HeldFrame : Type 0
+HeldFrame =
+    (P : ℕ) (f : Fifo) (g : Frame) (next : ℕ) → Fits f
+    → (frameAt P (take (f .level) (f .bytes)) (f .«used_bits») ≡ Whole g next)
+    ↔ (Proper P g × IsPrefix (bitsOf P g) (heldBits f) × (next ≡ f .«used_bits» + length (bitsOf P g)))
+
+-- It returns that the bits end exactly when those held begin with the bits of no proper frame.
+abbrev pub HeldCut : Type 0
+HeldCut =
+    (P : ℕ) (f : Fifo) → Fits f
+    → (frameAt P (take (f .level) (f .bytes)) (f .«used_bits») ≡ Cut) ↔ ((g : Frame) → Proper P g → IsPrefix (bitsOf P g) (heldBits f) → ⊥)
