@@ -9,21 +9,29 @@ use borrow.Author.Tests.{le-leb, ltb-true}
 use lib.Dec.{eqb, ltb}
 use lib.ListN.{length, drop, replicate, length-append, length-drop, length-replicate}
 use lib.Seq.{drop-drop}
+use Rattle.base.specs.Units.{intervalsPerFrame}
 use Rattle.base.proofs.Booleans.{both-true}
 use Rattle.rom.specs.Bits.{imageLimit}
-use Rattle.rom.specs.Frames.{pitchBits, Proper, isStop}
+use Rattle.rom.specs.Frames.{Proper, isStop}
 use Rattle.rom.specs.Reader.{frameAt}
 use Rattle.rom.specs.declared.frames.Frame.{Frame}
-use Rattle.rom.specs.declared.reader.Taken.{Taken}
-use Rattle.rom.specs.declared.reader.Taken.the-variants.{Whole, Cut}
-use Rattle.speech.specs.Types.{Mode, Idle, Rom, Waiting, External, Fifo, Port, Clock, Control, Action, Silent, Rest, RunOut, Begin, Continue, Moved}
-use Rattle.control.specs.State.{positionLimit, emptyFifo, stopped, withClock}
-use Rattle.control.specs.Validity.{speaks, isIdle, allZero, fifoValid, portValid, clockValid}
-use Rattle.control.specs.Buffer.{usedUp}
-use Rattle.control.specs.Counters.{counted, frameBegins}
-use Rattle.control.proofs.Ranges.{ControlRanges, place-ranges, place-in-range, fifo-ranges, fifo-in-range}
-use Rattle.speech.specs.Advance.{raises, changed, taken, ranOut, fromRom, fromFifo, rested, boundaryIn, advanced}
-use Rattle.speech.proofs.Moving.{held, frame-inside}
+use Rattle.rom.specs.declared.reader.FrameAnswer.{FrameAnswer}
+use Rattle.rom.specs.declared.reader.FrameAnswer.the-variants.{Whole, Cut}
+use Rattle.rom.proofs.WholeFrame.{whole-frame}
+use Rattle.address.specs.Addresses.{positionLimit, nibbles, movedTo}
+use Rattle.address.proofs.Ranges.{address-ranges, address-in-range}
+use Rattle.clock.specs.Counters.{clockValid, stopped, counted, intervalBegins, frameBegins}
+use Rattle.clock.proofs.Ranges.{clock-ranges}
+use Rattle.fifo.specs.Buffer.{allZero, emptied, usedUp}
+use Rattle.fifo.proofs.Ranges.{fifo-in-range}
+use Rattle.reports.specs.Reports.{Playable}
+use Rattle.control.specs.State.{withClock}
+use Rattle.control.specs.Validity.{speaks, isIdle, fifoValid, portValid}
+use Rattle.control.specs.Status.{raisedPort}
+use Rattle.control.proofs.Ranges.{ControlRanges, mode-ranges}
+use Rattle.speech.specs.Types.{Mode, Idle, Rom, Waiting, External, Fifo, Port, Clock, Control, NoReport, Action, Silent, Rest, Begin, Interpolate, Continue, Moved}
+use Rattle.speech.specs.Advance.{within, raises, changed, frameBegun, ranOut, fromRom, fromFifo, rested, boundaryIn, advanced}
+use Rattle.speech.proofs.Moving.{held}
 
 -- ---- the FIFO with bits gone
 
@@ -45,13 +53,13 @@ zeros (suc n) = zeros n
 
 used-up-valid : (f : Fifo) (u : ℕ) → fifoValid External f ≡ true → u < 8 * f .level → fifoValid External (usedUp f u) ≡ true
 used-up-valid f u h l =
-    let r = fifo-ranges External f h in
+    let r = mode-ranges External f h in
     let whole : u / 8 + (f .level - u / 8) ≡ f .level = omega arith in
-    fifo-in-range External (usedUp f u) (record {
-      least = omega arith;
-      most = omega (arith, r .most);
-      used = omega arith;
-      size = simp (length-append, length-drop, length-replicate) (omega (arith, r .size, r .most));
+    fifo-in-range _ _ _ (usedUp f u) (record {
+      at-least = omega arith;
+      at-most = omega (arith, r .at-most);
+      used-bits = omega arith;
+      size = simp (length-append, length-drop, length-replicate) (omega (arith, r .size, r .at-most));
       clear =
           zero-append (drop (u / 8) (f .bytes)) (replicate (u / 8) 0) (f .level - u / 8)
           (rw (drop-drop (f .level - u / 8) (u / 8) (f .bytes), whole) (r .clear)) (zeros (u / 8));
@@ -59,104 +67,115 @@ used-up-valid f u h l =
 
 -- ---- the clock and the port
 
-counted-valid : (m : Mode) (t : Clock) → t .sounding ≡ true → clockValid m (counted t) ≡ true
-counted-valid m t on =
+counted-valid : (speaks : Bool) (t : Clock) → t .sounding ≡ true → clockValid speaks (counted t) ≡ true
+counted-valid speaks t on =
     rw (le-leb ((t .sample .0 + 1) % 25) 24 (omega arith), le-leb ((t .interval .0 + (t .sample .0 + 1) / 25) % 8) 7 (omega arith), on)
 
 -- the port stays valid where an idle mode stays idle
 port-valid : (m m′ : Mode) (p : Port) (i : Bool) → portValid m p ≡ true → (isIdle m ≡ true → isIdle m′ ≡ true)
-    → portValid m′ (record { pending = p .pending; byte = p .byte; interrupt = i }) ≡ true
+    → portValid m′ (raisedPort i p) ≡ true
 port-valid m m′ p i h idle = go (p .pending) refl
   where
-    go : (b : Bool) → p .pending ≡ b → portValid m′ (record { pending = p .pending; byte = p .byte; interrupt = i }) ≡ true
+    go : (b : Bool) → p .pending ≡ b → portValid m′ (raisedPort i p) ≡ true
     go true e = rw (e, idle (both-true (isIdle m) true (rw e at h) .0))
     go false e = rw e (rw e at h)
 
 -- ---- a step
 
--- what the sound may count on with each action: whether the chip sounds after the step, and that a frame which begins is one of
--- the table
-abbrev pub Asked : Bool → Bool → Action → Type 0
-Asked before after Silent = after ≡ before
-Asked before after Rest = after ≡ false
-Asked before after RunOut = after ≡ false
-Asked before after (Begin f) = Proper pitchBits f × (after ≡ true)
-Asked before after Continue = after ≡ true
+-- whether the chip sounds after the step, by what it asks of the sound
+abbrev pub Sounds : Bool → Bool → Action → Type 0
+Sounds before after Silent = after ≡ before
+Sounds before after Rest = after ≡ false
+Sounds before after (Begin f i) = after ≡ true
+Sounds before after (Interpolate i) = after ≡ true
+Sounds before after Continue = after ≡ true
 
-pub record Kept (k : Control) (d : Moved) : Type 0 where
+pub record Kept (P : ℕ) (k : Control) (d : Moved) : Type 0 where
   pub control : ControlRanges (d .control)
-  pub asked : Asked (k .clock .sounding) (d .control .clock .sounding) (d .action)
+  pub sounds : Sounds (k .clock .sounding) (d .control .clock .sounding) (d .action)
+  pub playable : Playable P (d .action)
 
-module _ (image : List ℕ) (small : length image ≤ imageLimit) (k : Control) (r : ControlRanges k) where
-  place : (k .place .position ≤ positionLimit) × (k .place .nibble ≤ 4)
-  place = place-ranges (k .place) (r .place)
+module _ (P : ℕ) (image : List ℕ) (small : length image ≤ imageLimit) (k : Control) (r : ControlRanges k) where
+  address : (k .address .position ≤ positionLimit) × (k .address .«next_nibble» < nibbles)
+  address = address-ranges (k .address) (r .address)
+
+  interval : k .clock .interval .0 < intervalsPerFrame
+  interval = omega (arith, clock-ranges (speaks (k .mode)) (k .clock) (r .clock) .1)
 
   changed-ranges : (m : Mode) (p : ℕ) (f : Fifo) (t : Clock) → p ≤ positionLimit → (isIdle (k .mode) ≡ true → isIdle m ≡ true)
-      → fifoValid m f ≡ true → clockValid m t ≡ true → ControlRanges (changed k m p f t)
+      → fifoValid m f ≡ true → clockValid (speaks m) t ≡ true → ControlRanges (changed k m p f t)
   changed-ranges m p f t l idle g h =
       record {
-        place = place-in-range (record { position = p; nibble = k .place .nibble }) l (place .1);
+        address = address-in-range (movedTo p (k .address)) l (address .1);
         fifo = g;
-        port = port-valid (k .mode) m (k .port) (k .port .interrupt || raises k m f) (r .port) idle;
+        port = port-valid (k .mode) m (k .port) (raises k m f) (r .port) idle;
         clock = h;
       }
 
-  out-kept : (p : ℕ) (f : Fifo) → p ≤ positionLimit → fifoValid Idle f ≡ true → Kept k (ranOut k p f)
-  out-kept p f l h = record { control = changed-ranges Idle p f stopped l (λ i. refl) h refl; asked = refl }
+  out-kept : (p : ℕ) (f : Fifo) → p ≤ positionLimit → fifoValid Idle f ≡ true → Kept P k (ranOut k p f)
+  out-kept p f l h = record { control = changed-ranges Idle p f (stopped (k .clock)) l (λ i. refl) h refl; sounds = refl; playable = tt }
 
-  rest-kept : speaks (k .mode) ≡ false → Kept k (rested k)
-  rest-kept e = record { control = record { place = r .place; fifo = r .fifo; port = r .port; clock = rw e }; asked = refl }
+  rest-kept : speaks (k .mode) ≡ false → Kept P k (rested k)
+  rest-kept e = record { control = record { address = r .address; fifo = r .fifo; port = r .port; clock = rw e }; sounds = refl; playable = tt }
 
   module _ (on : k .clock .sounding ≡ true) where
-    taken-kept : (f : Frame) (p : ℕ) (g : Fifo) → Proper pitchBits f → p ≤ positionLimit → (isStop f ≡ false → fifoValid (k .mode) g ≡ true)
-        → Kept k (taken k f p g)
-    taken-kept f p g proper l h = record { control = go (isStop f) refl; asked = (proper, on) }
+    begun-kept : (f : Frame) (p : ℕ) (g : Fifo) → Proper P f → p ≤ positionLimit → (isStop f ≡ false → fifoValid (k .mode) g ≡ true)
+        → Kept P k (frameBegun k f p g)
+    begun-kept f p g proper l h = record { control = go (isStop f) refl; sounds = on; playable = (proper, interval) }
       where
-        go : (t : Bool) → isStop f ≡ t → ControlRanges (changed k (cond t Idle (k .mode)) p (cond t emptyFifo g) (counted (k .clock)))
-        go true e = changed-ranges Idle p emptyFifo (counted (k .clock)) l (λ i. refl) refl (counted-valid Idle (k .clock) on)
-        go false e = changed-ranges (k .mode) p g (counted (k .clock)) l (λ i. i) (h e) (counted-valid (k .mode) (k .clock) on)
+        go : (t : Bool) → isStop f ≡ t → ControlRanges (changed k (cond t Idle (k .mode)) p (cond t (emptied g) g) (counted (k .clock)))
+        go true e = changed-ranges Idle p (emptied g) (counted (k .clock)) l (λ i. refl) refl (counted-valid false (k .clock) on)
+        go false e = changed-ranges (k .mode) p g (counted (k .clock)) l (λ i. i) (h e) (counted-valid (speaks (k .mode)) (k .clock) on)
 
-    rom-kept : k .mode ≡ Rom → (x : Taken) → x ≡ frameAt pitchBits image (k .place .position) → Kept k (fromRom image k x)
+    rom-kept : k .mode ≡ Rom → (x : FrameAnswer) → x ≡ frameAt P image (k .address .position) → Kept P k (fromRom image k x)
     rom-kept m (Whole f next) a =
-        let i = frame-inside image (k .place .position) a refl in
-        taken-kept f next (k .fifo) (i .0) (omega (arith, i .1)) (λ n. r .fifo)
-    rom-kept m Cut a = out-kept _ (k .fifo) (omega (arith, place)) (subst (λ (m : Mode). fifoValid m (k .fifo) ≡ true) m (r .fifo))
+        let w = whole-frame P image (k .address .position) a refl in
+        begun-kept f next (k .fifo) (w .proper) (omega (arith, w .inside)) (λ n. r .fifo)
+    rom-kept m Cut a = out-kept _ (k .fifo) (omega (arith, address)) (subst (λ (m : Mode). fifoValid m (k .fifo) ≡ true) m (r .fifo))
 
-    fifo-kept : k .mode ≡ External → (x : Taken) → x ≡ frameAt pitchBits (held k) (k .fifo .used) → Kept k (fromFifo k x)
+    fifo-kept : k .mode ≡ External → (x : FrameAnswer) → x ≡ frameAt P (held k) (k .fifo .«used_bits») → Kept P k (fromFifo k x)
     fifo-kept m (Whole f next) a = go (isStop f || ltb next (8 * k .fifo .level)) refl
       where
         external : fifoValid External (k .fifo) ≡ true
         external = subst (λ (m : Mode). fifoValid m (k .fifo) ≡ true) m (r .fifo)
 
         go : (t : Bool) → (isStop f || ltb next (8 * k .fifo .level)) ≡ t
-            → Kept k (cond t (taken k f (k .place .position) (usedUp (k .fifo) next)) (ranOut k (k .place .position) emptyFifo))
+            → Kept P k (cond t (frameBegun k f (k .address .position) (usedUp (k .fifo) next)) (ranOut k (k .address .position) (emptied (k .fifo))))
         go true t =
-            taken-kept f (k .place .position) (usedUp (k .fifo) next) (frame-inside (held k) (k .fifo .used) a refl .0) (place .0)
+            begun-kept f (k .address .position) (usedUp (k .fifo) next) (whole-frame P (held k) (k .fifo .«used_bits») a refl .proper) (address .0)
             (λ n. rw m (used-up-valid (k .fifo) next external (ltb-true _ _ (rw n at t))))
-        go false t = out-kept (k .place .position) emptyFifo (place .0) refl
-    fifo-kept m Cut a = out-kept (k .place .position) emptyFifo (place .0) refl
+        go false t = out-kept (k .address .position) (emptied (k .fifo)) (address .0) refl
+    fifo-kept m Cut a = out-kept (k .address .position) (emptied (k .fifo)) (address .0) refl
 
-    boundary-kept : (m : Mode) → k .mode ≡ m → Kept k (boundaryIn m image k)
+    boundary-kept : (m : Mode) → k .mode ≡ m → Kept P k (boundaryIn P m image k)
     boundary-kept Idle e = rest-kept (ap speaks e)
     boundary-kept Rom e = rom-kept e _ refl
     boundary-kept Waiting e = rest-kept (ap speaks e)
     boundary-kept External e = fifo-kept e _ refl
 
-    within-kept : Kept k (record { control = withClock (counted (k .clock)) k; action = Continue })
-    within-kept =
-        record {
-          control = record { place = r .place; fifo = r .fifo; port = r .port; clock = counted-valid (k .mode) (k .clock) on };
-          asked = on;
-        }
+    within-kept : Kept P k (record { control = withClock (counted (k .clock)) k; action = within (k .clock); report = NoReport })
+    within-kept = record {
+      control = record { address = r .address; fifo = r .fifo; port = r .port; clock = counted-valid (speaks (k .mode)) (k .clock) on };
+      sounds = go-sounds (intervalBegins (k .clock));
+      playable = go-playable (intervalBegins (k .clock));
+    }
+      where
+        go-sounds : (t : Bool) → Sounds (k .clock .sounding) (k .clock .sounding) (cond t (Interpolate (k .clock .interval)) Continue)
+        go-sounds true = on
+        go-sounds false = on
 
-  pub advanced-kept : Kept k (advanced image k)
+        go-playable : (t : Bool) → Playable P (cond t (Interpolate (k .clock .interval)) Continue)
+        go-playable true = interval
+        go-playable false = tt
+
+  pub advanced-kept : Kept P k (advanced P image k)
   unfolding advanced
   advanced-kept = go (k .clock .sounding) refl (frameBegins (k .clock))
     where
       go : (s : Bool) → k .clock .sounding ≡ s → (b : Bool)
-          → Kept k
-          (cond s (cond b (boundaryIn (k .mode) image k) (record { control = withClock (counted (k .clock)) k; action = Continue }))
-          (record { control = k; action = Silent }))
-      go false s b = record { control = r; asked = refl }
+          → Kept P k
+          (cond s (cond b (boundaryIn P (k .mode) image k) (record { control = withClock (counted (k .clock)) k; action = within (k .clock); report = NoReport }))
+          (record { control = k; action = Silent; report = NoReport }))
+      go false s b = record { control = r; sounds = refl; playable = tt }
       go true s true = boundary-kept s (k .mode) refl
       go true s false = within-kept s

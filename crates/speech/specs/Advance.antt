@@ -1,21 +1,23 @@
--- What a sample step does to the control, and what it asks of the sound (01, "Sound"). Nothing here depends on a voice file
--- or on the sound.
+-- What a sample step does to the control, what it asks of the sound, and what it reports (01, "Sound"). Nothing here depends on a
+-- voice file or on the sound. P is the width of the pitch field.
 use mathlib.Core.Bool.{Bool, not, cond, _&&_, _||_}
 use mathlib.Core.List.{List}
 use Prim.Native.Nat.{ℕ, _*_, max}
 use lib.Dec.{ltb}
 use lib.ListN.{length, take}
-use Rattle.rom.specs.Frames.{pitchBits, isStop}
+use Rattle.rom.specs.Frames.{isStop}
 use Rattle.rom.specs.Reader.{frameAt}
 use Rattle.rom.specs.declared.frames.Frame.{Frame}
-use Rattle.rom.specs.declared.reader.Taken.{Taken}
-use Rattle.rom.specs.declared.reader.Taken.the-variants.{Whole, Cut}
-use Rattle.speech.specs.Types.{Mode, Idle, Rom, Waiting, External, Fifo, Clock, Control, Silent, Rest, RunOut, Begin, Continue, Moved}
-use Rattle.control.specs.State.{emptyFifo, stopped, withClock}
-use Rattle.control.specs.Counters.{counted, frameBegins}
+use Rattle.rom.specs.declared.reader.FrameAnswer.{FrameAnswer}
+use Rattle.rom.specs.declared.reader.FrameAnswer.the-variants.{Whole, Cut}
+use Rattle.address.specs.Addresses.{movedTo}
+use Rattle.clock.specs.Counters.{stopped, counted, intervalBegins, frameBegins}
+use Rattle.fifo.specs.Buffer.{emptied, usedUp, bufferLow, bufferEmpty}
+use Rattle.reports.specs.Reports.{frameReport}
+use Rattle.control.specs.State.{withMode, withAddress, withFifo, withPort, withClock}
 use Rattle.control.specs.Validity.{speaks}
-use Rattle.control.specs.Buffer.{usedUp}
-use Rattle.control.specs.Status.{bufferLow, bufferEmpty}
+use Rattle.control.specs.Status.{raisedPort}
+use Rattle.speech.specs.Types.{Mode, Idle, Rom, Waiting, External, Fifo, Clock, Control, NoReport, RanOut, Action, Silent, Rest, Begin, Interpolate, Continue, Moved}
 
 -- the interrupt is set when TS falls or BL or BE rises
 abbrev pub raises : Control → Mode → Fifo → Bool
@@ -25,52 +27,52 @@ raises k m f =
 
 -- the control with another mode, position, FIFO and clock, and the interrupt that this sets
 abbrev pub changed : Control → Mode → ℕ → Fifo → Clock → Control
-changed k m p f t = record {
-  mode = m;
-  place = record { position = p; nibble = k .place .nibble };
-  fifo = f;
-  port = record { pending = k .port .pending; byte = k .port .byte; interrupt = k .port .interrupt || raises k m f };
-  clock = t;
-}
+changed k m p f t =
+    withClock t (withPort (raisedPort (raises k m f) (k .port)) (withFifo f (withAddress (movedTo p (k .address)) (withMode m k))))
 
 -- a frame is taken, and the position and the FIFO have moved on. Stop also makes the mode idle and discards held FIFO bytes
-abbrev pub taken : Control → Frame → ℕ → Fifo → Moved
-taken k f p held = record {
-  control = changed k (cond (isStop f) Idle (k .mode)) p (cond (isStop f) emptyFifo held) (counted (k .clock));
-  action = Begin f;
+abbrev pub frameBegun : Control → Frame → ℕ → Fifo → Moved
+frameBegun k f p held = record {
+  control = changed k (cond (isStop f) Idle (k .mode)) p (cond (isStop f) (emptied held) held) (counted (k .clock));
+  action = Begin f (k .clock .interval);
+  report = frameReport f;
 }
 
 -- running out: idle, sound at rest at once
 abbrev pub ranOut : Control → ℕ → Fifo → Moved
-ranOut k p held = record { control = changed k Idle p held stopped; action = RunOut }
+ranOut k p held = record { control = changed k Idle p held (stopped (k .clock)); action = Rest; report = RanOut }
 
 -- from ROM: if it ends inside a frame or before its first bit, the position goes to the image's end, or stays if past it
-abbrev pub fromRom : List ℕ → Control → Taken → Moved
-fromRom image k (Whole f next) = taken k f next (k .fifo)
-fromRom image k Cut = ranOut k (max (k .place .position) (8 * length image)) (k .fifo)
+abbrev pub fromRom : List ℕ → Control → FrameAnswer → Moved
+fromRom image k (Whole f next) = frameBegun k f next (k .fifo)
+fromRom image k Cut = ranOut k (max (k .address .position) (8 * length image)) (k .fifo)
 
 -- from the FIFO: if its bits end inside a frame, or exactly with a frame other than a stop, they are used up
-abbrev pub fromFifo : Control → Taken → Moved
+abbrev pub fromFifo : Control → FrameAnswer → Moved
 fromFifo k (Whole f next) =
-    cond (isStop f || ltb next (8 * k .fifo .level)) (taken k f (k .place .position) (usedUp (k .fifo) next))
-    (ranOut k (k .place .position) emptyFifo)
-fromFifo k Cut = ranOut k (k .place .position) emptyFifo
+    cond (isStop f || ltb next (8 * k .fifo .level)) (frameBegun k f (k .address .position) (usedUp (k .fifo) next))
+    (ranOut k (k .address .position) (emptied (k .fifo)))
+fromFifo k Cut = ranOut k (k .address .position) (emptied (k .fifo))
 
 -- a frame boundary in idle or waiting puts the sound to rest
 abbrev pub rested : Control → Moved
-rested k = record { control = withClock stopped k; action = Rest }
+rested k = record { control = withClock (stopped (k .clock)) k; action = Rest; report = NoReport }
 
 -- at a frame boundary
-abbrev pub boundaryIn : Mode → List ℕ → Control → Moved
-boundaryIn Idle image k = rested k
-boundaryIn Rom image k = fromRom image k (frameAt pitchBits image (k .place .position))
-boundaryIn Waiting image k = rested k
-boundaryIn External image k = fromFifo k (frameAt pitchBits (take (k .fifo .level) (k .fifo .bytes)) (k .fifo .used))
+abbrev pub boundaryIn : ℕ → Mode → List ℕ → Control → Moved
+boundaryIn P Idle image k = rested k
+boundaryIn P Rom image k = fromRom image k (frameAt P image (k .address .position))
+boundaryIn P Waiting image k = rested k
+boundaryIn P External image k = fromFifo k (frameAt P (take (k .fifo .level) (k .fifo .bytes)) (k .fifo .«used_bits»))
+
+-- within a frame the sound is interpolated at an interval's first sample
+abbrev pub within : Clock → Action
+within t = cond (intervalBegins t) (Interpolate (t .interval)) Continue
 
 -- a sample step of the control; not sounding, it changes nothing
-unfoldable pub advanced : List ℕ → Control → Moved
-advanced image k =
+unfoldable pub advanced : ℕ → List ℕ → Control → Moved
+advanced P image k =
     cond (k .clock .sounding)
-    (cond (frameBegins (k .clock)) (boundaryIn (k .mode) image k)
-    (record { control = withClock (counted (k .clock)) k; action = Continue }))
-    (record { control = k; action = Silent })
+    (cond (frameBegins (k .clock)) (boundaryIn P (k .mode) image k)
+    (record { control = withClock (counted (k .clock)) k; action = within (k .clock); report = NoReport }))
+    (record { control = k; action = Silent; report = NoReport })

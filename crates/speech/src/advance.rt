@@ -1,44 +1,33 @@
-// What a sample step does to the control, and what it asks of the sound.
+// What a sample step does to the control, what it asks of the sound, and what it reports. The width of the pitch field is a
+// parameter.
 ghost use mathlib.Core.Path.{_≡_};
 ghost use mathlib.Core.Bool.{true};
 ghost use Prim.Native.Nat.{_*_, _≤_, _<_};
 ghost use lib.ListN.{length, take};
 ghost use Rattle.rom.specs.Bits.{imageLimit};
-ghost use Rattle.rom.specs.Frames.{pitchBits};
 ghost use Rattle.rom.specs.Reader.{frameAt};
-ghost use Rattle.control.specs.State.{positionLimit, fifoSize};
+ghost use Rattle.address.specs.Addresses.{positionLimit};
+ghost use Rattle.clock.specs.Counters.{lastSample, lastInterval};
+ghost use Rattle.fifo.specs.Buffer.{fifoSize};
 ghost use Rattle.control.specs.Validity.{controlValid};
-ghost use Rattle.speech.specs.Advance.{raises, changed, taken, ranOut, fromRom, fromFifo, rested, boundaryIn, advanced};
-use control::state::Clock;
+ghost use Rattle.speech.specs.Advance.{raises, changed, frameBegun, ranOut, fromRom, fromFifo, rested, boundaryIn, within, advanced};
+use clock::Clock;
 use control::state::Control;
-use control::state::Fifo;
 use control::state::Mode;
-use control::state::Place;
-use control::state::Port;
+use fifo::Fifo;
+use reports::Action;
+use reports::Report;
+use reports::report_frame;
 use rom::frames::Frame;
-use rom::frames::PITCH_BITS;
 use rom::frames::is_stop;
-use rom::reader::Taken;
+use rom::reader::FrameAnswer;
 use rom::reader::frame_at;
 
-// What the control asks of the sound.
-pub enum Action {
-    // Stay as it is.
-    Silent,
-    // Go to rest: its last frame has ended.
-    Rest,
-    // Go to rest: the bits have run out.
-    RunOut,
-    // Begin a frame.
-    Begin(Frame),
-    // Go on within the frame.
-    Continue,
-}
-
-// The control after a step, and what it asks of the sound.
+// The control after a step, what it asks of the sound, and what it reports.
 pub struct Moved {
     pub control: Control,
     pub action: Action,
+    pub report: Report,
 }
 
 // Whether a change of mode and FIFO sets the interrupt.
@@ -57,43 +46,42 @@ fn change(control: Control, mode: Mode, position: usize, fifo: Fifo, clock: Cloc
     ensures { λ r. ⌜ r ≡ changed control mode position fifo clock ⌝ }
 {
     let raised = raises(control, mode, fifo);
-    Control {
-        mode,
-        place: Place {
-            position,
-            nibble: control.place.nibble,
-        },
-        fifo,
-        port: Port {
-            pending: control.port.pending,
-            byte: control.port.byte,
-            interrupt: control.port.interrupt | raised,
-        },
-        clock,
-    }
+    let address = control.address;
+    let port = control.port;
+    let moved = control
+        .with_mode(mode)
+        .with_address(address.move_to(position));
+    moved
+        .with_fifo(fifo)
+        .with_port(port.raise(raised))
+        .with_clock(clock)
 }
 
 // The control after a frame, the position and the FIFO moved on.
-fn take_frame(control: Control, frame: Frame, position: usize, held: Fifo) -> Moved
-    requires { ⌜ (control .clock .sample .0 ≤ 24) × (control .clock .interval .0 ≤ 7) ⌝ }
-    ensures { λ r. ⌜ r ≡ taken control frame position held ⌝ }
+fn begin_frame(control: Control, frame: Frame, position: usize, held: Fifo) -> Moved
+    requires { ⌜ (control .clock .sample .0 ≤ lastSample) × (control .clock .interval .0 ≤ lastInterval) ⌝ }
+    ensures { λ r. ⌜ r ≡ frameBegun control frame position held ⌝ }
 {
     let old = control.clock;
+    let interval = old.interval;
     let clock = old.count();
+    let action = Action::Begin(frame, interval);
+    let report = report_frame(frame);
     let stop = is_stop(frame);
     if stop {
-        let fifo = Fifo::empty();
-        let next = change(control, Mode::Idle, position, fifo, clock);
+        let next = change(control, Mode::Idle, position, held.discard(), clock);
         Moved {
             control: next,
-            action: Action::Begin(frame),
+            action,
+            report,
         }
     } else {
         let mode = control.mode;
         let next = change(control, mode, position, held, clock);
         Moved {
             control: next,
-            action: Action::Begin(frame),
+            action,
+            report,
         }
     }
 }
@@ -102,26 +90,28 @@ fn take_frame(control: Control, frame: Frame, position: usize, held: Fifo) -> Mo
 fn run_out(control: Control, position: usize, held: Fifo) -> Moved
     ensures { λ r. ⌜ r ≡ ranOut control position held ⌝ }
 {
-    let clock = Clock::stopped();
-    let next = change(control, Mode::Idle, position, held, clock);
+    let clock = control.clock;
+    let next = change(control, Mode::Idle, position, held, clock.stop());
     Moved {
         control: next,
-        action: Action::RunOut,
+        action: Action::Rest,
+        report: Report::RanOut,
     }
 }
 
 // A frame from the ROM, or its end.
-fn from_rom(control: Control, image: &[u8]) -> Moved
+fn from_rom(control: Control, image: &[u8], pitch_bits: usize) -> Moved
     requires { ⌜ (length (now image) ≤ imageLimit)
-        × (control .place .position ≤ positionLimit)
-        × (control .clock .sample .0 ≤ 24)
-        × (control .clock .interval .0 ≤ 7) ⌝ }
-    ensures { λ r. ⌜ r ≡ fromRom (now (image .entry)) control (frameAt pitchBits (now (image .entry)) (control .place .position)) ⌝ }
+        × («pitch_bits» ≤ 8)
+        × (control .address .position ≤ positionLimit)
+        × (control .clock .sample .0 ≤ lastSample)
+        × (control .clock .interval .0 ≤ lastInterval) ⌝ }
+    ensures { λ r. ⌜ r ≡ fromRom (now (image .entry)) control (frameAt «pitch_bits» (now (image .entry)) (control .address .position)) ⌝ }
 {
-    let position = control.place.position;
+    let position = control.address.position;
     let held = control.fifo;
-    let answer = frame_at(image, position, PITCH_BITS);
-    let Taken::Whole(frame, next) = answer else {
+    let answer = frame_at(image, position, pitch_bits);
+    let FrameAnswer::Whole(frame, next) = answer else {
         let end = 8 * image.len();
         if position < end {
             return run_out(control, end, held);
@@ -129,31 +119,32 @@ fn from_rom(control: Control, image: &[u8]) -> Moved
             return run_out(control, position, held);
         }
     };
-    take_frame(control, frame, next, held)
+    begin_frame(control, frame, next, held)
 }
 
 // A frame from the FIFO, or its end.
-fn from_fifo(control: Control) -> Moved
-    requires { ⌜ (control .fifo .level ≤ fifoSize)
-        × (control .fifo .used ≤ 7)
-        × (control .clock .sample .0 ≤ 24)
-        × (control .clock .interval .0 ≤ 7) ⌝ }
-    ensures { λ r. ⌜ r ≡ fromFifo control (frameAt pitchBits (take (control .fifo .level) (control .fifo .bytes)) (control .fifo .used)) ⌝ }
+fn from_fifo(control: Control, pitch_bits: usize) -> Moved
+    requires { ⌜ («pitch_bits» ≤ 8)
+        × (control .fifo .level ≤ fifoSize)
+        × (control .fifo .«used_bits» ≤ 7)
+        × (control .clock .sample .0 ≤ lastSample)
+        × (control .clock .interval .0 ≤ lastInterval) ⌝ }
+    ensures { λ r. ⌜ r ≡ fromFifo control (frameAt «pitch_bits» (take (control .fifo .level) (control .fifo .bytes)) (control .fifo .«used_bits»)) ⌝ }
 {
-    let position = control.place.position;
+    let position = control.address.position;
     let held = control.fifo;
     let bytes = held.bytes;
     let level = held.level as usize;
-    let used = held.used as usize;
-    let answer = frame_at(&bytes[..level], used, PITCH_BITS);
-    let Taken::Whole(frame, next) = answer else {
-        return run_out(control, position, Fifo::empty());
+    let used = held.used_bits as usize;
+    let answer = frame_at(&bytes[..level], used, pitch_bits);
+    let FrameAnswer::Whole(frame, next) = answer else {
+        return run_out(control, position, held.discard());
     };
     let stop = is_stop(frame);
     if stop | (next < 8 * level) {
-        take_frame(control, frame, position, held.use_up(next))
+        begin_frame(control, frame, position, held.use_up(next))
     } else {
-        run_out(control, position, Fifo::empty())
+        run_out(control, position, held.discard())
     }
 }
 
@@ -161,49 +152,67 @@ fn from_fifo(control: Control) -> Moved
 fn rest(control: Control) -> Moved
     ensures { λ r. ⌜ r ≡ rested control ⌝ }
 {
-    let next = control.with_clock(Clock::stopped());
+    let clock = control.clock;
+    let next = control.with_clock(clock.stop());
     Moved {
         control: next,
         action: Action::Rest,
+        report: Report::Nothing,
     }
 }
 
 // At a frame boundary.
-fn boundary(control: Control, image: &[u8]) -> Moved
-    requires { ⌜ (length (now image) ≤ imageLimit) × (controlValid control ≡ true) ⌝ }
-    ensures { λ r. ⌜ r ≡ boundaryIn (control .mode) (now (image .entry)) control ⌝ }
+fn boundary(control: Control, image: &[u8], pitch_bits: usize) -> Moved
+    requires { ⌜ (length (now image) ≤ imageLimit) × («pitch_bits» ≤ 8) × (controlValid control ≡ true) ⌝ }
+    ensures { λ r. ⌜ r ≡ boundaryIn «pitch_bits» (control .mode) (now (image .entry)) control ⌝ }
 {
     let mode = control.mode;
     match mode {
         Mode::Idle => rest(control),
-        Mode::Rom => from_rom(control, image),
+        Mode::Rom => from_rom(control, image, pitch_bits),
         Mode::Waiting => rest(control),
-        Mode::External => from_fifo(control),
+        Mode::External => from_fifo(control, pitch_bits),
+    }
+}
+
+// What is asked of the sound within a frame.
+fn go_on(clock: Clock) -> Action
+    ensures { λ r. ⌜ r ≡ within clock ⌝ }
+{
+    let first = clock.interval_begins();
+    if first {
+        let interval = clock.interval;
+        Action::Interpolate(interval)
+    } else {
+        Action::Continue
     }
 }
 
 // A sample step of the control, which the caller has tested, as it has the image.
-pub fn advance(control: Control, image: &[u8]) -> Moved
-    requires { ⌜ (length (now image) ≤ imageLimit) × (controlValid control ≡ true) ⌝ }
-    ensures { λ r. ⌜ r ≡ advanced (now (image .entry)) control ⌝ }
+pub fn advance(control: Control, image: &[u8], pitch_bits: usize) -> Moved
+    requires { ⌜ (length (now image) ≤ imageLimit) × («pitch_bits» ≤ 8) × (controlValid control ≡ true) ⌝ }
+    ensures { λ r. ⌜ r ≡ advanced «pitch_bits» (now (image .entry)) control ⌝ }
 {
     let clock = control.clock;
     let sounding = clock.sounding;
     if sounding {
         let first = clock.frame_begins();
         if first {
-            boundary(control, image)
+            boundary(control, image, pitch_bits)
         } else {
+            let action = go_on(clock);
             let next = control.with_clock(clock.count());
             Moved {
                 control: next,
-                action: Action::Continue,
+                action,
+                report: Report::Nothing,
             }
         }
     } else {
         Moved {
             control,
             action: Action::Silent,
+            report: Report::Nothing,
         }
     }
 }

@@ -12,8 +12,9 @@ advance-spec =
     (tie.spec
     (λ c κs. search needs)
     (λ c κs. search needs)
-    (λ c κs. valid-ranges _ (c .before .before .before .before .before .pre .1) .1)
     (λ c κs. search needs)
-    (λ c. advanced-boundary _ _ (c .before .before .before .if1 .taken) (sym (c .before .before .frame-begins .ensures) ∙ c .before .if2 .taken) (c .boundary .ensures))
-    (λ c. advanced-within _ _ (c .before .before .before .before .if1 .taken) (sym (c .before .before .before .frame-begins .ensures) ∙ c .before .before .if2 .left) (rw (c .before .count .ensures) at (c .with-clock .ensures)))
-    (λ c. advanced-silent _ _ (c .if1 .left)))
+    (λ c κs. valid-ranges _ (c .before .before .before .before .before .before .pre .2) .1)
+    (λ c κs. search needs)
+    (λ c. advanced-boundary _ _ _ (c .before .before .before .if1 .taken) (sym (c .before .before .frame-begins .ensures) ∙ c .before .if2 .taken) (c .boundary .ensures))
+    (λ c. advanced-within _ _ _ (c .before .before .before .before .before .if1 .taken) (sym (c .before .before .before .before .frame-begins .ensures) ∙ c .before .before .before .if2 .left) (rw (c .before .count .ensures) at (c .with-clock .ensures)) (c .before .before .go-on .ensures))
+    (λ c. advanced-silent _ _ _ (c .if1 .left)))

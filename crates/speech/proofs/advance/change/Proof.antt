@@ -8,4 +8,11 @@ change-spec =
     tie.close
     (tie.spec
     (λ c κs. search needs)
-    (λ c. rw (c .before .raises .ensures)))
+    (λ c κs. search needs)
+    (λ c κs. search needs)
+    (λ c κs. search needs)
+    (λ c κs. search needs)
+    (λ c κs. search needs)
+    (λ c κs. search needs)
+    (λ c κs. search needs)
+    (λ c. rw (c .with-clock .ensures, c .before .with-port .ensures, c .before .before .raise .ensures, c .before .before .before .with-fifo .ensures, c .before .before .before .before .with-address .ensures, c .before .before .before .before .before .move-to .ensures, c .before .before .before .before .before .before .with-mode .ensures, c .before .before .before .before .before .before .before .before .before .raises .ensures)))

@@ -9,4 +9,4 @@ rest-spec =
     (tie.spec
     (λ c κs. search needs)
     (λ c κs. search needs)
-    (λ c. rw (c .with-clock .ensures, c .before .stopped .ensures)))
+    (λ c. rw (c .with-clock .ensures, c .before .stop .ensures)))

@@ -9,4 +9,4 @@ run-out-spec =
     (tie.spec
     (λ c κs. search needs)
     (λ c κs. search needs)
-    (λ c. rw (c .change .ensures, c .before .stopped .ensures)))
+    (λ c. rw (c .change .ensures, c .before .stop .ensures)))

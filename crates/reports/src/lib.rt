@@ -1,0 +1,65 @@
+// What a sample step reports, and what it asks of the sound.
+ghost use mathlib.Core.Path.{_≡_};
+ghost use Rattle.reports.specs.Reports.{reportNumber, reportFrame, frameReport};
+use base::units::Intervals;
+use rom::frames::Frame;
+use rom::frames::MaybeFrame;
+use rom::frames::is_stop;
+
+// What a step reports.
+pub enum Report {
+    Nothing,
+    Frame(Frame),
+    Stop,
+    RanOut,
+}
+
+// What a step asks of the sound.
+pub enum Action {
+    // Stay as it is, and give no sound.
+    Silent,
+    // Go to rest: the last frame has ended, or the bits have run out.
+    Rest,
+    // Begin a frame, whose first interval this is.
+    Begin(Frame, Intervals),
+    // Begin an interval of the frame.
+    Interpolate(Intervals),
+    // Go on within the interval.
+    Continue,
+}
+
+impl Report {
+    pub fn number(self) -> u8
+        ensures { λ r. ⌜ r ≡ reportNumber self ⌝ }
+    {
+        match self {
+            Report::Nothing => 0,
+            Report::Frame(_) => 1,
+            Report::Stop => 2,
+            Report::RanOut => 3,
+        }
+    }
+
+    pub fn frame(self) -> MaybeFrame
+        ensures { λ r. ⌜ r ≡ reportFrame self ⌝ }
+    {
+        match self {
+            Report::Nothing => MaybeFrame::None,
+            Report::Frame(frame) => MaybeFrame::Some(frame),
+            Report::Stop => MaybeFrame::Some(Frame::Stop),
+            Report::RanOut => MaybeFrame::None,
+        }
+    }
+}
+
+// A frame that begins is reported as frame or stop.
+pub fn report_frame(frame: Frame) -> Report
+    ensures { λ r. ⌜ r ≡ frameReport frame ⌝ }
+{
+    let stop = is_stop(frame);
+    if stop {
+        Report::Stop
+    } else {
+        Report::Frame(frame)
+    }
+}
