@@ -7,10 +7,10 @@ use Prim.Native.Nat.{ℕ, _≤_, _<_}
 use native.Mathlib.Omega.{arith}
 use borrow.Author.Tests.{eqb-false}
 use Rattle.bus.specs.Types.{Mode, Idle, Rom, Waiting, External, Control, Command, Accepted}
-use Rattle.control.specs.State.{fifoSize}
+use Rattle.fifo.specs.Buffer.{fifoSize}
 use Rattle.control.specs.Validity.{mostLevel, controlValid}
 use Rattle.control.specs.Commands.{waits}
-use Rattle.control.proofs.Ranges.{control-ranges, fifo-ranges}
+use Rattle.control.proofs.Ranges.{control-ranges, mode-ranges}
 use Rattle.bus.specs.Accept.{acceptedIn, accepted}
 
 room-in : (m : Mode) (level : ℕ) (c : Command) → level ≤ mostLevel m → waits m level c ≡ false → level < fifoSize
@@ -21,7 +21,7 @@ room-in External level c h w = let d = eqb-false level fifoSize w in omega (arit
 
 -- where a byte does not wait, the FIFO has room
 pub room : (k : Control) (c : Command) → controlValid k ≡ true → waits (k .mode) (k .fifo .level) c ≡ false → k .fifo .level < fifoSize
-room k c v w = room-in (k .mode) (k .fifo .level) c (fifo-ranges (k .mode) (k .fifo) (control-ranges k v .fifo) .most) w
+room k c v w = room-in (k .mode) (k .fifo .level) c (mode-ranges (k .mode) (k .fifo) (control-ranges k v .fifo) .at-most) w
 
 pub in-mode : (image : List ℕ) (k : Control) (b : ℕ) {m : Mode} {r : Accepted} → k .mode ≡ m → r ≡ acceptedIn m image k b → r ≡ accepted image k b
 unfolding accepted

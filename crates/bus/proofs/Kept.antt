@@ -12,20 +12,23 @@ use lib.ListN.{length, drop, set, length-set}
 use Rattle.base.proofs.Booleans.{both-true}
 use Rattle.rom.specs.Bits.{imageLimit}
 use Rattle.rom.proofs.Checks.{valid-length}
-use Rattle.bus.specs.Types.{Mode, Idle, Rom, Waiting, External, Place, Fifo, Port, Clock, Control, Command, Nothing, ReadByte, ReadAndBranch, LoadAddress, Speak, SpeakExternal, Reset, Accepted}
-use Rattle.control.specs.State.{positionLimit, addressLimit, fifoSize, startLevel, powerUpControl}
-use Rattle.control.specs.Validity.{allZero, leastLevel, mostLevel, mostUsed, fifoValid, portValid, clockValid}
-use Rattle.control.specs.Addresses.{withNibble}
-use Rattle.control.specs.Buffer.{appended}
-use Rattle.control.specs.Commands.{commandOf, isReset, beyondAt, beyond}
-use Rattle.control.proofs.Ranges.{ControlRanges, control-ranges, control-in-ranges, place-ranges, place-in-range, fifo-ranges, fifo-in-range}
+use Rattle.bus.specs.Types.{Mode, Idle, Rom, Waiting, External, AddressRegister, Fifo, Port, Clock, Control, Command, Nothing, ReadByte, ReadAndBranch, LoadAddress, Speak, SpeakExternal, Reset, Accepted}
+use Rattle.address.specs.Addresses.{positionLimit, addressLimit, nibbles, withNibble}
+use Rattle.address.proofs.Ranges.{address-ranges, address-in-range}
+use Rattle.clock.specs.Counters.{clockValid}
+use Rattle.fifo.specs.Buffer.{fifoSize, allZero, appended}
+use Rattle.fifo.proofs.Ranges.{fifo-in-range}
+use Rattle.control.specs.State.{startLevel, powerUpControl}
+use Rattle.control.specs.Validity.{speaks, leastLevel, mostLevel, mostUsed, fifoValid, portValid}
+use Rattle.control.specs.Commands.{commandOf, beyondAt, beyond}
+use Rattle.control.proofs.Ranges.{ControlRanges, control-ranges, control-in-ranges, mode-ranges}
 use Rattle.bus.specs.Commands.{soundKept, talking, reset, obeyed}
 use Rattle.bus.specs.Accept.{buffered, acceptedIn, accepted}
 use Rattle.bus.specs.Laws.{AcceptKeepsValid, SoundingKept}
 use Rattle.bus.proofs.Accepting.{room}
 
 power-up-ranges : ControlRanges powerUpControl
-power-up-ranges = record { place = refl; fifo = refl; port = refl; clock = refl }
+power-up-ranges = record { address = refl; fifo = refl; port = refl; clock = refl }
 
 -- ---- the commands
 
@@ -33,13 +36,13 @@ nibble-small : (a i v : ℕ) → withNibble a i v < addressLimit
 nibble-small a i v = omega arith
 
 module _ (image : List ℕ) (small : length image ≤ imageLimit) (k : Control) (r : ControlRanges k) (idle : k .mode ≡ Idle) where
-  ranges : (k .place .position ≤ positionLimit) × (k .place .nibble ≤ 4)
-  ranges = place-ranges (k .place) (r .place)
+  ranges : (k .address .position ≤ positionLimit) × (k .address .«next_nibble» < nibbles)
+  ranges = address-ranges (k .address) (r .address)
 
-  -- what a command leaves, but for Reset: the FIFO is the old one
-  moved : {m : Mode} {p : Place} {q : Port} {t : Clock} → (p .position ≤ positionLimit) × (p .nibble ≤ 4) → fifoValid m (k .fifo) ≡ true
-      → portValid m q ≡ true → clockValid m t ≡ true → ControlRanges (record { mode = m; place = p; fifo = k .fifo; port = q; clock = t })
-  moved l f q t = record { place = place-in-range _ (l .0) (l .1); fifo = f; port = q; clock = t }
+  -- what a command leaves is valid part by part
+  moved : {d : Control} → (d .address .position ≤ positionLimit) × (d .address .«next_nibble» < nibbles) → fifoValid (d .mode) (d .fifo) ≡ true
+      → portValid (d .mode) (d .port) ≡ true → clockValid (speaks (d .mode)) (d .clock) ≡ true → ControlRanges d
+  moved {d} l f q t = record { address = address-in-range (d .address) (l .0) (l .1); fifo = f; port = q; clock = t }
 
   empty : fifoValid Idle (k .fifo) ≡ true
   empty = subst (λ (m : Mode). fifoValid m (k .fifo) ≡ true) idle (r .fifo)
@@ -47,22 +50,22 @@ module _ (image : List ℕ) (small : length image ≤ imageLimit) (k : Control) 
   -- the empty FIFO is valid in waiting too
   waiting : fifoValid Waiting (k .fifo) ≡ true
   waiting =
-      let f = fifo-ranges Idle (k .fifo) empty in
-      fifo-in-range Waiting (k .fifo) (record { least = f .least; most = omega (arith, f .most); used = f .used; size = f .size; clear = f .clear })
+      let f = mode-ranges Idle (k .fifo) empty in
+      fifo-in-range _ _ _ (k .fifo) (record { at-least = f .at-least; at-most = omega (arith, f .at-most); used-bits = f .used-bits; size = f .size; clear = f .clear })
 
-  obeyed-ranges : (b : ℕ) (c : Command) → beyondAt image (k .place .position) c ≡ false → ControlRanges (obeyed image k b c .control)
+  obeyed-ranges : (b : ℕ) (c : Command) → beyondAt image (k .address .position) c ≡ false → ControlRanges (obeyed image k b c .control)
   obeyed-ranges b Nothing h = moved ranges (r .fifo) refl (r .clock)
   obeyed-ranges b ReadByte h =
-      let e = leb-true (k .place .position + 8) (8 * length image) (not-false _ h) in
+      let e = leb-true (k .address .position + 8) (8 * length image) (not-false _ h) in
       moved (omega (arith, e)) (r .fifo) (rw idle) (r .clock)
   obeyed-ranges b ReadAndBranch h =
-      let e = leb-true (k .place .position / 8 + 2) (length image) (not-false _ h) in
+      let e = leb-true (k .address .position / 8 + 2) (length image) (not-false _ h) in
       moved (omega (arith, e)) (r .fifo) refl (r .clock)
   obeyed-ranges b LoadAddress h =
-      moved (omega (arith, nibble-small (k .place .position / 8 % addressLimit) (k .place .nibble) (b % 16))) (r .fifo) refl (r .clock)
+      moved (omega (arith, nibble-small (k .address .position / 8 % addressLimit) (k .address .«next_nibble») (b % 16))) (r .fifo) refl (r .clock)
   obeyed-ranges b Speak h = moved (omega (arith, ranges)) empty refl refl
   obeyed-ranges b SpeakExternal h =
-      moved (omega (arith, ranges)) waiting refl (subst (λ (m : Mode). clockValid m (k .clock) ≡ true) idle (r .clock))
+      moved (omega (arith, ranges)) waiting refl (subst (λ (m : Mode). clockValid (speaks m) (k .clock) ≡ true) idle (r .clock))
   obeyed-ranges b Reset h = power-up-ranges
 
 -- ---- bytes for the FIFO
@@ -81,11 +84,11 @@ drop-set (y ∷ l) (suc n) x = drop-set l n x
 appended-valid : (m m′ : Mode) (f : Fifo) (b : ℕ) → fifoValid m f ≡ true
     → leastLevel m′ ≤ f .level + 1 → f .level + 1 ≤ mostLevel m′ → mostUsed m ≤ mostUsed m′ → fifoValid m′ (appended f b) ≡ true
 appended-valid m m′ f b h l u v =
-    let r = fifo-ranges m f h in
-    fifo-in-range m′ (appended f b) (record {
-      least = l;
-      most = u;
-      used = omega (arith, r .used);
+    let r = mode-ranges m f h in
+    fifo-in-range _ _ _ (appended f b) (record {
+      at-least = l;
+      at-most = u;
+      used-bits = omega (arith, r .used-bits);
       size = simp length-set (r .size);
       clear = rw (add-one, drop-set (f .bytes) (f .level) b) (all-zero-tail (f .bytes) (f .level) (r .clear));
     })
@@ -94,16 +97,12 @@ appended-valid m m′ f b h l u v =
 
 module _ (image : List ℕ) (small : length image ≤ imageLimit) (k : Control) (r : ControlRanges k) (b : ℕ) where
   buffered-ranges : fifoValid (k .mode) (appended (k .fifo) b) ≡ true → ControlRanges (buffered k b)
-  buffered-ranges h = record { place = r .place; fifo = h; port = r .port; clock = r .clock }
+  buffered-ranges h = record { address = r .address; fifo = h; port = r .port; clock = r .clock }
 
-  accepted-ranges : (m : Mode) → k .mode ≡ m → k .fifo .level < fifoSize → beyond m image (k .place .position) (commandOf b) ≡ false
+  accepted-ranges : (m : Mode) → k .mode ≡ m → k .fifo .level < fifoSize → beyond m image (k .address .position) (commandOf b) ≡ false
       → ControlRanges (acceptedIn m image k b .control)
   accepted-ranges Idle e l h = obeyed-ranges image small k r e b (commandOf b) h
-  accepted-ranges Rom e l h = go (isReset (commandOf b))
-    where
-      go : (t : Bool) → ControlRanges (cond t reset (soundKept k) .control)
-      go true = power-up-ranges
-      go false = r
+  accepted-ranges Rom e l h = power-up-ranges
   accepted-ranges Waiting e l h = go (eqb (k .fifo .level + 1) startLevel) refl
     where
       held : fifoValid Waiting (k .fifo) ≡ true
@@ -114,14 +113,14 @@ module _ (image : List ℕ) (small : length image ≤ imageLimit) (k : Control) 
       go true t =
           let n = eqb-true (k .fifo .level + 1) startLevel t in
           record {
-            place = r .place;
+            address = r .address;
             fifo = appended-valid Waiting External (k .fifo) b held (omega arith) (omega arith) (omega arith);
             port = subst (λ (m : Mode). portValid m (k .port) ≡ true) e (r .port);
             clock = refl;
           }
       go false t =
           let n = eqb-false (k .fifo .level + 1) startLevel t in
-          let u = fifo-ranges Waiting (k .fifo) held .most in
+          let u = mode-ranges Waiting (k .fifo) held .at-most in
           buffered-ranges (rw e (appended-valid Waiting Waiting (k .fifo) b held (omega arith) (omega (arith, n, u)) (omega arith)))
   accepted-ranges External e l h =
       buffered-ranges (rw e (appended-valid External External (k .fifo) b (subst (λ (m : Mode). fifoValid m (k .fifo) ≡ true) e (r .fifo)) (omega arith) (omega arith) (omega arith)))
@@ -154,7 +153,7 @@ module _ (image : List ℕ) (k : Control) (b : ℕ) where
 
   accepted-sounding : (m : Mode) → SameSounding k (acceptedIn m image k b)
   accepted-sounding Idle = obeyed-sounding (commandOf b)
-  accepted-sounding Rom = either (isReset (commandOf b)) reset k refl refl
+  accepted-sounding Rom = λ h. absurd (true≢false h)
   accepted-sounding Waiting = either (eqb (k .fifo .level + 1) startLevel) (talking External (buffered k b)) (buffered k b) refl refl
   accepted-sounding External = λ h. refl
 

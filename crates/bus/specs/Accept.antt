@@ -5,18 +5,18 @@ use Prim.Native.Nat.{ℕ, _+_}
 use lib.Dec.{eqb}
 use Rattle.bus.specs.Types.{Mode, Idle, Rom, Waiting, External, Control, Accepted}
 use Rattle.control.specs.State.{startLevel, withFifo}
-use Rattle.control.specs.Buffer.{appended}
-use Rattle.control.specs.Commands.{commandOf, isReset}
+use Rattle.fifo.specs.Buffer.{appended}
+use Rattle.control.specs.Commands.{commandOf}
 use Rattle.bus.specs.Commands.{soundKept, talking, reset, obeyed}
 
 -- in both external modes each byte goes to the FIFO
 abbrev pub buffered : Control → ℕ → Control
 buffered k b = withFifo (appended (k .fifo) b) k
 
--- idle obeys the byte's command, ROM speech takes Reset alone; the ninth byte in waiting starts external speaking
+-- idle obeys the byte's command; ROM speech takes Reset alone, all else waits; the ninth byte in waiting starts external speaking
 abbrev pub acceptedIn : Mode → List ℕ → Control → ℕ → Accepted
 acceptedIn Idle image k b = obeyed image k b (commandOf b)
-acceptedIn Rom image k b = cond (isReset (commandOf b)) reset (soundKept k)
+acceptedIn Rom image k b = reset k
 acceptedIn Waiting image k b = cond (eqb (k .fifo .level + 1) startLevel) (talking External (buffered k b)) (soundKept (buffered k b))
 acceptedIn External image k b = soundKept (buffered k b)
 

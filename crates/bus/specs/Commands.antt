@@ -5,8 +5,9 @@ use mathlib.Core.List.{List}
 use Prim.Native.Nat.{ℕ, _%_}
 use Rattle.rom.specs.Bits.{field}
 use Rattle.bus.specs.Types.{Mode, Rom, Waiting, Port, Control, Command, Nothing, ReadByte, ReadAndBranch, LoadAddress, Speak, SpeakExternal, Reset, Accepted}
-use Rattle.control.specs.State.{started, powerUpControl, withMode, withPlace, withPort, withClock}
-use Rattle.control.specs.Addresses.{loaded, pastByte, branched, restarted}
+use Rattle.address.specs.Addresses.{loaded, pastByte, branched, restarted}
+use Rattle.clock.specs.Counters.{started}
+use Rattle.control.specs.State.{powerUpControl, withMode, withAddress, withPort, withClock}
 use Rattle.control.specs.Status.{noData}
 
 -- the sound stays as it is
@@ -15,11 +16,11 @@ soundKept k = record { control = k; rests = false }
 
 -- TS rising (01, "Sound") puts the sound at rest and starts it
 abbrev pub talking : Mode → Control → Accepted
-talking m k = record { control = withClock started (withMode m k); rests = true }
+talking m k = record { control = withClock (started (k .clock)) (withMode m k); rests = true }
 
 -- Reset gives the power-up state, in which the sound is at rest
-abbrev pub reset : Accepted
-reset = record { control = powerUpControl; rests = true }
+abbrev pub reset : Control → Accepted
+reset k = record { control = powerUpControl; rests = true }
 
 -- the control without pending data
 abbrev pub dataDropped : Control → Control
@@ -27,14 +28,14 @@ dataDropped k = withPort (noData (k .port)) k
 
 -- Read Byte: the eight bits from the position on are the pending data byte
 abbrev pub dataTaken : List ℕ → Control → Port
-dataTaken image k = record { pending = true; byte = field image (k .place .position) 8; interrupt = k .port .interrupt }
+dataTaken image k = record { pending = true; «data» = field image (k .address .position) 8; interrupt = k .port .interrupt }
 
 -- what each command does; b is the byte that it was in
 abbrev pub obeyed : List ℕ → Control → ℕ → Command → Accepted
 obeyed image k b Nothing = soundKept (dataDropped k)
-obeyed image k b ReadByte = soundKept (withPlace (pastByte (k .place)) (withPort (dataTaken image k) k))
-obeyed image k b ReadAndBranch = soundKept (withPlace (branched image (k .place)) (dataDropped k))
-obeyed image k b LoadAddress = soundKept (withPlace (loaded (k .place) (b % 16)) (dataDropped k))
-obeyed image k b Speak = talking Rom (withPlace (restarted (k .place)) (dataDropped k))
+obeyed image k b ReadByte = soundKept (withAddress (pastByte (k .address)) (withPort (dataTaken image k) k))
+obeyed image k b ReadAndBranch = soundKept (withAddress (branched image (k .address)) (dataDropped k))
+obeyed image k b LoadAddress = soundKept (withAddress (loaded (k .address) (b % 16)) (dataDropped k))
+obeyed image k b Speak = talking Rom (withAddress (restarted (k .address)) (dataDropped k))
 obeyed image k b SpeakExternal = soundKept (withMode Waiting (dataDropped k))
-obeyed image k b Reset = reset
+obeyed image k b Reset = reset k

@@ -13,7 +13,7 @@ use Rattle.bus.specs.Accept.{accepted}
 abbrev pub AcceptKeepsValid : Type 0
 AcceptKeepsValid =
     (image : List ℕ) (k : Control) (b : ℕ) → imageValid image ≡ true → controlValid k ≡ true
-    → waits (k .mode) (k .fifo .level) (commandOf b) ≡ false → beyond (k .mode) image (k .place .position) (commandOf b) ≡ false
+    → waits (k .mode) (k .fifo .level) (commandOf b) ≡ false → beyond (k .mode) image (k .address .position) (commandOf b) ≡ false
     → controlValid (accepted image k b .control) ≡ true
 
 -- Where the byte does not put the sound at rest, the chip sounds after it exactly if it did before.

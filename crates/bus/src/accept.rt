@@ -2,7 +2,7 @@
 ghost use mathlib.Core.Path.{_≡_};
 ghost use mathlib.Core.Bool.{true, false};
 ghost use Prim.Native.Nat.{_<_};
-ghost use Rattle.control.specs.State.{fifoSize};
+ghost use Rattle.fifo.specs.Buffer.{fifoSize};
 ghost use Rattle.control.specs.Validity.{controlValid};
 ghost use Rattle.control.specs.Commands.{commandOf, waits};
 ghost use Rattle.bus.specs.Accept.{buffered, accepted};
@@ -11,7 +11,7 @@ use crate::commands::obey;
 use crate::commands::reset;
 use crate::commands::sound_kept;
 use crate::commands::talk;
-use control::commands::command_of;
+use control::commands::Command;
 use control::state::Control;
 use control::state::Mode;
 
@@ -23,22 +23,18 @@ fn buffer(control: Control, byte: u8) -> Control
     control.with_fifo(fifo.append(byte))
 }
 
-// A byte of which the caller has tested that it need not wait, on a control that it has tested.
-pub fn accept(control: Control, image: &[u8], byte: u8) -> Accepted
-    requires { ⌜ (controlValid control ≡ true) × (waits (control .mode) (control .fifo .level) (commandOf byte) ≡ false) ⌝ }
+// A byte and its command, of which the caller has tested that it need not wait, on a control that it has tested. So the
+// command is Reset where the chip speaks from ROM.
+pub fn accept(control: Control, image: &[u8], byte: u8, command: Command) -> Accepted
+    requires { ⌜ (controlValid control ≡ true)
+        × (command ≡ commandOf byte)
+        × (waits (control .mode) (control .fifo .level) command ≡ false) ⌝ }
     ensures { λ r. ⌜ r ≡ accepted (now (image .entry)) control byte ⌝ }
 {
-    let command = command_of(byte);
     let mode = control.mode;
     match mode {
         Mode::Idle => obey(control, image, byte, command),
-        Mode::Rom => {
-            if command.is_reset() {
-                reset()
-            } else {
-                sound_kept(control)
-            }
-        }
+        Mode::Rom => reset(control),
         Mode::Waiting => {
             let level = control.fifo.level;
             let next = buffer(control, byte);

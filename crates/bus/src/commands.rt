@@ -1,10 +1,9 @@
 // What each command does, in idle.
 ghost use mathlib.Core.Path.{_≡_};
-ghost use Prim.Native.Nat.{_≤_};
-ghost use Rattle.control.specs.State.{positionLimit};
+ghost use Prim.Native.Nat.{_≤_, _<_};
+ghost use Rattle.address.specs.Addresses.{positionLimit, nibbles};
 ghost use Rattle.bus.specs.Commands.{soundKept, talking, reset, dataDropped, dataTaken, obeyed};
 use control::commands::Command;
-use control::state::Clock;
 use control::state::Control;
 use control::state::Mode;
 use control::state::Port;
@@ -29,19 +28,20 @@ pub(crate) fn sound_kept(control: Control) -> Accepted
 pub(crate) fn talk(control: Control, mode: Mode) -> Accepted
     ensures { λ r. ⌜ r ≡ talking mode control ⌝ }
 {
-    let next = control.with_mode(mode).with_clock(Clock::started());
+    let clock = control.clock;
+    let next = control.with_mode(mode).with_clock(clock.start());
     Accepted {
         control: next,
         rests: true,
     }
 }
 
-pub(crate) fn reset() -> Accepted
-    ensures { λ r. ⌜ r ≡ reset ⌝ }
+pub(crate) fn reset(control: Control) -> Accepted
+    ensures { λ r. ⌜ r ≡ reset control ⌝ }
 {
-    let control = Control::power_up();
+    let next = Control::power_up();
     Accepted {
-        control,
+        control: next,
         rests: true,
     }
 }
@@ -50,39 +50,39 @@ fn drop_data(control: Control) -> Control
     ensures { λ r. ⌜ r ≡ dataDropped control ⌝ }
 {
     let port = control.port;
-    control.with_port(port.no_data())
+    control.with_port(port.drop_data())
 }
 
 // The port with the byte at the position as its data.
 fn take_data(control: Control, image: &[u8]) -> Port
-    requires { ⌜ control .place .position ≤ positionLimit ⌝ }
+    requires { ⌜ control .address .position ≤ positionLimit ⌝ }
     ensures { λ r. ⌜ r ≡ dataTaken (now (image .entry)) control ⌝ }
 {
-    let position = control.place.position;
+    let position = control.address.position;
     Port {
         pending: true,
-        byte: field_at(image, position, 8),
+        data: field_at(image, position, 8),
         interrupt: control.port.interrupt,
     }
 }
 
 // What a command does.
 pub(crate) fn obey(control: Control, image: &[u8], byte: u8, command: Command) -> Accepted
-    requires { ⌜ (control .place .position ≤ positionLimit) × (control .place .nibble ≤ 4) ⌝ }
+    requires { ⌜ (control .address .position ≤ positionLimit) × (control .address .«next_nibble» < nibbles) ⌝ }
     ensures { λ r. ⌜ r ≡ obeyed (now (image .entry)) control byte command ⌝ }
 {
-    let place = control.place;
+    let address = control.address;
     let dropped = drop_data(control);
     match command {
         Command::Nothing => sound_kept(dropped),
         Command::ReadByte => {
             let port = take_data(control, image);
-            sound_kept(control.with_port(port).with_place(place.past_byte()))
+            sound_kept(control.with_port(port).with_address(address.pass_byte()))
         }
-        Command::ReadAndBranch => sound_kept(dropped.with_place(place.branch(image))),
-        Command::LoadAddress => sound_kept(dropped.with_place(place.load(byte % 16))),
-        Command::Speak => talk(dropped.with_place(place.restart()), Mode::Rom),
+        Command::ReadAndBranch => sound_kept(dropped.with_address(address.branch(image))),
+        Command::LoadAddress => sound_kept(dropped.with_address(address.load(byte % 16))),
+        Command::Speak => talk(dropped.with_address(address.restart()), Mode::Rom),
         Command::SpeakExternal => sound_kept(dropped.with_mode(Mode::Waiting)),
-        Command::Reset => reset(),
+        Command::Reset => reset(control),
     }
 }

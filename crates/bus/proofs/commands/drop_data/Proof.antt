@@ -9,4 +9,4 @@ drop-data-spec =
     (tie.spec
     (λ c κs. search needs)
     (λ c κs. search needs)
-    (λ c. rw (c .with-port .ensures, c .before .no-data .ensures)))
+    (λ c. rw (c .with-port .ensures, c .before .drop-data .ensures)))

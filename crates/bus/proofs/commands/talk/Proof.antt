@@ -10,4 +10,4 @@ talk-spec =
     (λ c κs. search needs)
     (λ c κs. search needs)
     (λ c κs. search needs)
-    (λ c. rw (c .with-clock .ensures, c .before .started .ensures, c .before .before .with-mode .ensures)))
+    (λ c. rw (c .with-clock .ensures, c .before .start .ensures, c .before .before .with-mode .ensures)))
