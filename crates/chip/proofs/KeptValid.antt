@@ -4,17 +4,16 @@ use mathlib.Core.Path.{_≡_, refl}
 use mathlib.Core.Bool.{Bool, true, false, cond}
 use mathlib.Core.List.{List}
 use Prim.Native.Nat.{ℕ}
-use borrow.Author.Tests.{eqb-true}
-use lib.Dec.{eqb}
+use Rattle.base.proofs.Faults.{by-fault}
 use Rattle.sound.specs.State.{soundValid, restSound, atRest}
 use Rattle.control.specs.Validity.{portValid, controlValid}
 use Rattle.control.specs.Status.{acknowledgedPort}
 use Rattle.control.proofs.Ranges.{ControlRanges, control-ranges, control-in-ranges}
 use Rattle.bus.specs.Accept.{accepted}
 use Rattle.bus.proofs.Kept.{accept-keeps-valid, sounding-kept}
-use Rattle.chip.specs.Types.{Mode, Port, Chip}
+use Rattle.chip.specs.Types.{Mode, Port, Chip, Written}
 use Rattle.chip.specs.Validity.{valid}
-use Rattle.chip.specs.Write.{writeFault, afterByte, writeOf}
+use Rattle.chip.specs.Write.{writeFault, notWritten, afterByte, writeOf}
 use Rattle.chip.specs.Read.{acknowledgeOf, readOf}
 use Rattle.chip.specs.Laws.{PowerUpValid, WriteKeepsValid, AcknowledgeKeepsValid, ReadKeepsValid}
 use Rattle.chip.proofs.Ranges.{ChipRanges, chip-ranges, in-ranges, at-rest}
@@ -45,11 +44,9 @@ module _ (image : List ℕ) (c : Chip) (b : ℕ) (f : Found image c b) where
 
 pub write-keeps-valid : WriteKeepsValid
 unfolding writeOf
-write-keeps-valid image c b h = go (eqb (writeFault image c b) 0) refl
-  where
-    go : (t : Bool) → eqb (writeFault image c b) 0 ≡ t → valid (writeOf image c b .chip) ≡ true
-    go true t = rw t (in-ranges _ (written-ranges image c b (found image c b (eqb-true _ _ t))))
-    go false t = rw t h
+write-keeps-valid image c b h =
+    by-fault (λ (w : Written). valid (w .chip) ≡ true) (writeFault image c b) (notWritten c) _
+    (λ e. in-ranges _ (written-ranges image c b (found image c b e))) (λ r. h)
 
 -- ---- an acknowledge and a read
 
@@ -66,7 +63,7 @@ acknowledge-keeps-valid c h =
     let r = chip-ranges c h in
     let k = r .control in
     rw h (in-ranges _ (record {
-      control = record { place = k .place; fifo = k .fifo; port = acknowledged-valid (c .control .mode) (c .control .port) (k .port); clock = k .clock };
+      control = record { address = k .address; fifo = k .fifo; port = acknowledged-valid (c .control .mode) (c .control .port) (k .port); clock = k .clock };
       sound = r .sound;
       quiet = r .quiet;
     }))

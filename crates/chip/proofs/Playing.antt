@@ -12,16 +12,16 @@ use lib.IntN.{ℤ}
 use Rattle.base.specs.Steps.{stateAfter, outputs}
 use Rattle.base.proofs.Booleans.{both-true}
 use Rattle.base.proofs.Steps.{after-add, outputs-add, after-keeps}
-use Rattle.voice.specs.Layout.{pitches}
-use Rattle.sound.specs.Sample.{sampled, valuesOf, sampleStep as soundStep}
-use Rattle.sound.specs.Interpolation.{interpolated}
+use Rattle.rom.specs.Frames.{pitchBits}
+use Rattle.sound.specs.Sample.{sampled, valuesOf, soundStep}
 use Rattle.sound.specs.declared.state.Sound.{Sound}
+use Rattle.clock.specs.Counters.{lastSample, lastInterval, countedBy, intervalBegins, frameBegins, leftOfInterval, clockValid}
 use Rattle.control.specs.State.{withClock}
-use Rattle.control.specs.Counters.{countedBy, intervalBegins, leftOfInterval}
-use Rattle.control.specs.Validity.{speaks, clockValid}
+use Rattle.control.specs.Validity.{speaks}
 use Rattle.speech.proofs.Moving.{advanced-within}
-use Rattle.chip.specs.Types.{Mode, Clock, Moved, Chip, Stepped}
-use Rattle.chip.specs.Step.{sounded, steps, stepFault}
+use Rattle.play.specs.Play.{sounded}
+use Rattle.chip.specs.Types.{Clock, Continue, Moved, Chip, Stepped}
+use Rattle.chip.specs.Step.{stepTaken, stepFault}
 use Rattle.chip.specs.Run.{sampleStep, playedOn}
 use Rattle.chip.proofs.Ranges.{chip-ranges, valid-clock}
 use Rattle.chip.proofs.Stepping.{passed, step-taken}
@@ -54,30 +54,27 @@ inside t l = go (intervalBegins t) refl
     go true e = absurd (omega (arith, rw e at l))
     go false e = let n = eqb-false (t .sample .0) 0 e in (omega (arith, n), rw e)
 
-sounds : (m : Mode) (t : Clock) → clockValid m t ≡ true → 1 ≤ t .sample .0 → t .sounding ≡ true
-sounds m t h l = go (t .sounding) refl
+sounds : (speaks : Bool) (t : Clock) → clockValid speaks t ≡ true → 1 ≤ t .sample .0 → t .sounding ≡ true
+sounds speaks t h l = go (t .sounding) refl
   where
     go : (b : Bool) → t .sounding ≡ b → t .sounding ≡ true
     go true e = e
     go false e =
-        let s = eqb (t .sample .0) 0 in
-        let i = eqb (t .interval .0) 0 in
-        let rest = both-true (leb (t .sample .0) 24 && leb (t .interval .0) 7) (s && i && not (speaks m)) (rw e at h) .1 in
-        let none = eqb-true (t .sample .0) 0 (both-true s i (both-true (s && i) (not (speaks m)) rest .0) .0) in
+        let begins = both-true (leb (t .sample .0) lastSample && leb (t .interval .0) lastInterval) (frameBegins t && not speaks) (rw e at h) .1 in
+        let none = eqb-true (t .sample .0) 0 (both-true (intervalBegins t) (eqb (t .interval .0) 0) (both-true (frameBegins t) (not speaks) begins .0) .0) in
         absurd (omega (arith, none))
 
 -- ---- the steps
 
 module _ (image voice : List ℕ) where
   within-step : (c : Chip) → stepFault image voice c ≡ 0 → c .control .clock .sounding ≡ true → (c .control .clock .sample .0 ≡ 0 → ⊥)
-      → sampleStep image voice c ≡ (playedOn voice 1 c, sampled pitches voice (c .sound) .value)
-  unfolding steps
+      → sampleStep image voice c ≡ (playedOn voice 1 c, sampled pitchBits voice (c .sound) .value)
+  unfolding stepTaken
   within-step c h on n =
       let t = c .control .clock in
       let inside : intervalBegins t ≡ false = ne-eqb (t .sample .0) 0 n in
       ap (λ (r : Stepped). (r .chip, r .sample)) (sym (step-taken image voice c refl h refl))
-      ∙ ap (λ (m : Moved). (record { control = m .control; sound = sounded voice t (m .action) (c .sound) .sound }, sounded voice t (m .action) (c .sound) .value)) (sym (advanced-within image (c .control) on (rw inside) refl))
-      ∙ ap (λ (b : Bool). (record { control = withClock (countedBy 1 t) (c .control); sound = sampled pitches voice (cond b (interpolated (t .interval) (c .sound)) (c .sound)) .sound }, sampled pitches voice (cond b (interpolated (t .interval) (c .sound)) (c .sound)) .value)) inside
+      ∙ ap (λ (m : Moved). (record { control = m .control; sound = sounded pitchBits voice (m .action) (c .sound) .sound }, sounded pitchBits voice (m .action) (c .sound) .value)) (sym (advanced-within pitchBits image (c .control) {a = Continue} on (rw inside) refl (rw inside)))
 
   -- a step without a fault leads to another
   abbrev Faultless : Chip → Type 0
@@ -91,7 +88,7 @@ module _ (image voice : List ℕ) where
     -- the states after n steps, and their samples
     record Within (n : ℕ) : Type 0 where
       state : stateAfter (sampleStep image voice) n c ≡ playedOn voice n c
-      samples : outputs (sampleStep image voice) n c ≡ valuesOf pitches voice n (c .sound)
+      samples : outputs (sampleStep image voice) n c ≡ valuesOf pitchBits voice n (c .sound)
 
     within-more : (n : ℕ) → c .control .clock .sample .0 + n ≤ 24 → Within n → Within (n + 1)
     within-more n l w =
@@ -102,11 +99,11 @@ module _ (image voice : List ℕ) where
               after-add (sampleStep image voice) n 1 c
               ∙ ap (λ (d : Chip). sampleStep image voice d .0) (w .state)
               ∙ ap (λ (r : Chip × ℤ). r .0) one
-              ∙ ap₂ (λ (t : Clock) (s : Sound). record { control = withClock t (c .control); sound = s }) (counted-more n (c .control .clock)) (sym (after-add (soundStep pitches voice) n 1 (c .sound)));
+              ∙ ap₂ (λ (t : Clock) (s : Sound). record { control = withClock t (c .control); sound = s }) (counted-more n (c .control .clock)) (sym (after-add (soundStep pitchBits voice) n 1 (c .sound)));
           samples =
               outputs-add (sampleStep image voice) n 1 c
               ∙ ap₂ _++_ (w .samples) (ap (λ (d : Chip). sampleStep image voice d .1 ∷ []) (w .state) ∙ ap (λ (r : Chip × ℤ). r .1 ∷ []) one)
-              ∙ sym (outputs-add (soundStep pitches voice) n 1 (c .sound));
+              ∙ sym (outputs-add (soundStep pitchBits voice) n 1 (c .sound));
         }
 
     within-steps : (n : ℕ) → c .control .clock .sample .0 + n ≤ 25 → Within n
@@ -120,7 +117,7 @@ module _ (image voice : List ℕ) where
   -- the samples left of an interval, or the first n of them
   pub record Played (n : ℕ) (c : Chip) : Type 0 where
     pub state : playedOn voice n c ≡ stateAfter (sampleStep image voice) n c
-    pub samples : valuesOf pitches voice n (c .sound) ≡ outputs (sampleStep image voice) n c
+    pub samples : valuesOf pitchBits voice n (c .sound) ≡ outputs (sampleStep image voice) n c
     pub faultless : stepFault image voice (playedOn voice n c) ≡ 0
 
   pub played : (n : ℕ) (c : Chip) → stepFault image voice c ≡ 0 → 1 ≤ leftOfInterval (c .control .clock) → n ≤ leftOfInterval (c .control .clock) → Played n c
@@ -129,7 +126,7 @@ module _ (image voice : List ℕ) where
       let t = c .control .clock in
       let r = valid-clock c v in
       let i = inside t l in
-      let w = within-steps c h (sounds (c .control .mode) t (chip-ranges c v .control .clock) (i .0)) (i .0) (r .0) (r .1) n (omega (arith, r .0, i .1)) in
+      let w = within-steps c h (sounds (speaks (c .control .mode)) t (chip-ranges c v .control .clock) (i .0)) (i .0) (r .0) (r .1) n (omega (arith, r .0, i .1)) in
       record {
         state = sym (w .state);
         samples = sym (w .samples);

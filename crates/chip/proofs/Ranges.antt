@@ -1,14 +1,18 @@
 -- What a valid chip's fields are, from the tests.
 -- Assumes nothing.
 use mathlib.Core.Path.{_≡_, refl}
-use mathlib.Core.Bool.{Bool, true, false, _&&_, _||_}
-use Prim.Native.Nat.{_≤_}
-use Rattle.base.proofs.Booleans.{both-true}
+use mathlib.Core.Bool.{Bool, true, false, _||_}
+use mathlib.Core.List.{[], _∷_}
+use Prim.Native.Nat.{_≤_, _<_}
+use Rattle.base.proofs.Booleans.{all-true}
 use Rattle.sound.specs.State.{soundValid, restSound, atRest}
 use Rattle.sound.proofs.Laws.{stays-valid, rest-exactly}
-use Rattle.control.specs.State.{positionLimit}
-use Rattle.control.specs.Validity.{controlValid}
-use Rattle.control.proofs.Ranges.{ControlRanges, control-ranges, control-in-ranges, place-ranges, clock-ranges, FifoRanges, fifo-ranges}
+use Rattle.address.specs.Addresses.{positionLimit, nibbles}
+use Rattle.address.proofs.Ranges.{address-ranges}
+use Rattle.clock.specs.Counters.{lastSample, lastInterval}
+use Rattle.clock.proofs.Ranges.{clock-ranges}
+use Rattle.control.specs.Validity.{speaks, controlValid}
+use Rattle.control.proofs.Ranges.{ControlRanges, control-ranges, control-in-ranges}
 use Rattle.chip.specs.Types.{Control, Chip}
 use Rattle.chip.specs.Validity.{valid}
 
@@ -21,20 +25,14 @@ pub record ChipRanges (c : Chip) : Type 0 where
 pub chip-ranges : (c : Chip) → valid c ≡ true → ChipRanges c
 unfolding valid
 chip-ranges c h =
-    let a = controlValid (c .control) in
-    let b = soundValid (c .sound) in
-    let q = both-true (a && b) (c .control .clock .sounding || atRest (c .sound)) h in
-    let p = both-true a b (q .0) in
-    record { control = control-ranges (c .control) (p .0); sound = p .1; quiet = q .1 }
+    let r = all-true (controlValid (c .control) ∷ soundValid (c .sound) ∷ (c .control .clock .sounding || atRest (c .sound)) ∷ []) h in
+    record { control = control-ranges (c .control) (r .0); sound = r .1 .0; quiet = r .1 .1 .0 }
 
-pub valid-place : (c : Chip) → valid c ≡ true → (c .control .place .position ≤ positionLimit) × (c .control .place .nibble ≤ 4)
-valid-place c h = place-ranges _ (chip-ranges c h .control .place)
+pub valid-address : (c : Chip) → valid c ≡ true → (c .control .address .position ≤ positionLimit) × (c .control .address .«next_nibble» < nibbles)
+valid-address c h = address-ranges _ (chip-ranges c h .control .address)
 
-pub valid-clock : (c : Chip) → valid c ≡ true → (c .control .clock .sample .0 ≤ 24) × (c .control .clock .interval .0 ≤ 7)
-valid-clock c h = clock-ranges (c .control .mode) (c .control .clock) (chip-ranges c h .control .clock)
-
-pub valid-fifo : (c : Chip) → valid c ≡ true → FifoRanges (c .control .mode) (c .control .fifo)
-valid-fifo c h = fifo-ranges _ _ (chip-ranges c h .control .fifo)
+pub valid-clock : (c : Chip) → valid c ≡ true → (c .control .clock .sample .0 ≤ lastSample) × (c .control .clock .interval .0 ≤ lastInterval)
+valid-clock c h = clock-ranges (speaks (c .control .mode)) (c .control .clock) (chip-ranges c h .control .clock)
 
 -- and back: a chip whose fields are in their ranges is valid
 pub in-ranges : (c : Chip) → ChipRanges c → valid c ≡ true

@@ -1,4 +1,4 @@
--- What an acknowledge and a read answer, by their fault.
+-- What an acknowledge and a read return, by their fault.
 -- Assumes nothing.
 use mathlib.Core.Path.{_≡_, refl}
 use Prim.Native.Nat.{ℕ}

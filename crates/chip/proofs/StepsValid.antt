@@ -1,91 +1,71 @@
 -- A valid chip steps to a valid chip.
 -- Assumes nothing.
-use mathlib.Core.Path.{_≡_, refl, subst}
-use mathlib.Core.Bool.{Bool, true, false, cond}
+use mathlib.Core.Path.{_≡_}
+use mathlib.Core.Bool.{true}
 use mathlib.Core.List.{List}
 use Prim.Native.Nat.{ℕ}
-use borrow.Author.Tests.{eqb-true}
-use lib.Dec.{eqb}
+use Rattle.base.proofs.Faults.{by-fault}
 use Rattle.base.proofs.Steps.{after-keeps}
-use Rattle.rom.specs.Frames.{pitchBits, Proper}
-use Rattle.rom.specs.declared.frames.Frame.{Frame}
+use Rattle.rom.specs.Frames.{pitchBits}
 use Rattle.rom.proofs.Checks.{valid-length}
 use Rattle.voice.specs.Check.{voiceFault, version}
-use Rattle.voice.specs.Layout.{pitches}
-use Rattle.sound.specs.State.{soundValid}
-use Rattle.sound.specs.Interpolation.{interpolated}
-use Rattle.sound.specs.declared.state.Sound.{Sound}
 use Rattle.sound.proofs.Laws.{stays-valid}
-use Rattle.chip.specs.Types.{Clock, Control, Action, Silent, Rest, RunOut, Begin, Continue, Chip, Stepped}
-use Rattle.control.specs.Counters.{intervalBegins}
+use Rattle.reports.specs.Reports.{Playable}
 use Rattle.control.proofs.Ranges.{ControlRanges}
 use Rattle.speech.specs.Advance.{advanced}
-use Rattle.speech.proofs.Kept.{Asked, Kept, advanced-kept}
+use Rattle.speech.proofs.Kept.{Sounds, Kept, advanced-kept}
+use Rattle.play.specs.Play.{sounded}
+use Rattle.chip.specs.Types.{Control, Action, Silent, Rest, Begin, Interpolate, Continue, Chip, Stepped, Ran}
 use Rattle.chip.specs.Validity.{valid}
-use Rattle.chip.specs.Step.{played, sounded, steps, stepFault, stepOf}
-use Rattle.chip.specs.Run.{sampleStep, runOf}
+use Rattle.chip.specs.Step.{stepTaken, stepFault, notStepped, stepOf}
+use Rattle.chip.specs.Run.{sampleStep, notRun, runOf}
 use Rattle.chip.specs.Laws.{StepKeepsValid, RunKeepsValid}
 use Rattle.chip.proofs.Ranges.{ChipRanges, chip-ranges, in-ranges, at-rest}
 use Rattle.chip.proofs.Stepping.{Passed, passed, no-fault}
 
--- ---- the sound
-
-played-valid : (voice : List ℕ) (t : Clock) (s : Sound) → soundValid s ≡ true → soundValid (played voice t s .sound) ≡ true
-played-valid voice t s h = stays-valid .sample pitches voice _ (go (intervalBegins t))
-  where
-    go : (b : Bool) → soundValid (cond b (interpolated (t .interval) s) s) ≡ true
-    go true = stays-valid .interpolation (t .interval) s h
-    go false = h
-
 -- ---- a step
 
-module _ (voice : List ℕ) (voiced : voiceFault pitches version voice ≡ 0) (c : Chip) (r : ChipRanges c) (k : Control) (h : ControlRanges k) where
+module _ (voice : List ℕ) (voiced : voiceFault pitchBits version voice ≡ 0) (c : Chip) (r : ChipRanges c) (k : Control) (h : ControlRanges k) where
   -- the chip after a step in which the control moves to k
-  after-kept : (a : Action) → Asked (c .control .clock .sounding) (k .clock .sounding) a
-      → ChipRanges (record { control = k; sound = sounded voice (c .control .clock) a (c .sound) .sound })
-  after-kept Silent e = record { control = h; sound = r .sound; quiet = rw e (r .quiet) }
-  after-kept Rest e = at-rest k h
-  after-kept RunOut e = at-rest k h
-  after-kept (Begin f) e =
+  after-kept : (a : Action) → Sounds (c .control .clock .sounding) (k .clock .sounding) a → Playable pitchBits a
+      → ChipRanges (record { control = k; sound = sounded pitchBits voice a (c .sound) .sound })
+  after-kept Silent e p = record { control = h; sound = r .sound; quiet = rw e (r .quiet) }
+  after-kept Rest e p = at-rest k h
+  after-kept (Begin f i) e p =
       record {
         control = h;
-        sound = played-valid voice (c .control .clock) _ (stays-valid .targets voice f (c .sound) voiced (e .0) (r .sound));
-        quiet = rw (e .1);
+        sound = stays-valid .sample pitchBits voice _ (stays-valid .interpolation i _ (stays-valid .targets pitchBits version voice f (c .sound) voiced (p .0) (r .sound)));
+        quiet = rw e;
       }
-  after-kept Continue e = record { control = h; sound = played-valid voice (c .control .clock) (c .sound) (r .sound); quiet = rw e }
+  after-kept (Interpolate i) e p =
+      record { control = h; sound = stays-valid .sample pitchBits voice _ (stays-valid .interpolation i (c .sound) (r .sound)); quiet = rw e }
+  after-kept Continue e p = record { control = h; sound = stays-valid .sample pitchBits voice (c .sound) (r .sound); quiet = rw e }
 
 module _ (image voice : List ℕ) (c : Chip) where
   module _ (p : Passed image voice c) where
-    kept : Kept (c .control) (advanced image (c .control))
-    kept = advanced-kept image (valid-length image (p .image-valid) .1) (c .control) (chip-ranges c (p .chip-valid) .control)
+    pub kept : Kept pitchBits (c .control) (advanced pitchBits image (c .control))
+    kept = advanced-kept pitchBits image (valid-length image (p .image-valid) .1) (c .control) (chip-ranges c (p .chip-valid) .control)
 
-    pub begins-proper : (f : Frame) → advanced image (c .control) .action ≡ Begin f → Proper pitchBits f
-    begins-proper f e = subst (Asked (c .control .clock .sounding) (advanced image (c .control) .control .clock .sounding)) e (kept .asked) .0
-
-    pub steps-valid : valid (steps image voice c .chip) ≡ true
-    unfolding steps
-    steps-valid =
-        let d = advanced image (c .control) in
-        in-ranges _ (after-kept voice (p .voice-valid) c (chip-ranges c (p .chip-valid)) (d .control) (kept .control) (d .action) (kept .asked))
+    pub step-taken-valid : valid (stepTaken image voice c .chip) ≡ true
+    unfolding stepTaken
+    step-taken-valid =
+        let d = advanced pitchBits image (c .control) in
+        in-ranges _ (after-kept voice (p .voice-valid) c (chip-ranges c (p .chip-valid)) (d .control) (kept .control) (d .action) (kept .sounds) (kept .playable))
 
   -- so the next step has no fault either
-  pub goes-on : {r : Stepped} → stepFault image voice c ≡ 0 → r ≡ steps image voice c → stepFault image voice (r .chip) ≡ 0
+  pub goes-on : {r : Stepped} → stepFault image voice c ≡ 0 → r ≡ stepTaken image voice c → stepFault image voice (r .chip) ≡ 0
   goes-on h r =
       let p = passed image voice c h in
-      rw r (no-fault image voice _ (record { image-valid = p .image-valid; voice-valid = p .voice-valid; chip-valid = steps-valid p }))
+      rw r (no-fault image voice _ (record { image-valid = p .image-valid; voice-valid = p .voice-valid; chip-valid = step-taken-valid p }))
 
 pub step-keeps-valid : StepKeepsValid
 unfolding stepOf
-step-keeps-valid image voice c h = go (eqb (stepFault image voice c) 0) refl
-  where
-    go : (t : Bool) → eqb (stepFault image voice c) 0 ≡ t → valid (stepOf image voice c .chip) ≡ true
-    go true t = rw t (steps-valid image voice c (passed image voice c (eqb-true _ _ t)))
-    go false t = rw t h
+step-keeps-valid image voice c h =
+    by-fault (λ (r : Stepped). valid (r .chip) ≡ true) (stepFault image voice c) (notStepped c) _
+    (λ e. step-taken-valid image voice c (passed image voice c e)) (λ r. h)
 
 pub run-keeps-valid : RunKeepsValid
 unfolding runOf
-run-keeps-valid image voice c n h = go (eqb (stepFault image voice c) 0) refl
-  where
-    go : (t : Bool) → eqb (stepFault image voice c) 0 ≡ t → valid (runOf image voice c n .chip) ≡ true
-    go true t = rw t (after-keeps (sampleStep image voice) (λ (c : Chip). valid c ≡ true) (step-keeps-valid image voice) n h)
-    go false t = rw t h
+run-keeps-valid image voice c n h =
+    by-fault (λ (r : Ran). valid (r .chip) ≡ true) (stepFault image voice c) (notRun c) _
+    (λ e. after-keeps (sampleStep image voice) (λ (c : Chip). valid c ≡ true) (step-keeps-valid image voice) n h) (λ r. h)

@@ -1,17 +1,18 @@
--- What a written byte answers, by its fault, and what one without a fault finds.
+-- What a written byte returns, by its fault, and what one without a fault finds.
 -- Assumes nothing.
 use mathlib.Core.Path.{_≡_, refl}
 use mathlib.Core.Bool.{true, false, not}
-use mathlib.Core.List.{List}
+use mathlib.Core.List.{List, [], _∷_}
 use Prim.Native.Nat.{ℕ}
 use borrow.Author.Tests.{not-false}
-use Rattle.base.proofs.Faults.{answered, refused-with, none-first}
+use Rattle.base.specs.Refusals.{WAIT, BEYOND, IMAGE, STATE}
+use Rattle.base.proofs.Faults.{answered, refused-with, none-applies}
 use Rattle.rom.specs.Bits.{imageValid}
 use Rattle.control.specs.Commands.{commandOf, waits, beyond}
 use Rattle.bus.specs.Accept.{accepted}
 use Rattle.chip.specs.Types.{Accepted, Chip}
 use Rattle.chip.specs.Validity.{valid}
-use Rattle.chip.specs.Write.{writeFault, notWritten, afterByte, writeOf}
+use Rattle.chip.specs.Write.{commandFault, writeFault, notWritten, afterByte, writeOf}
 
 module _ (image : List ℕ) (c : Chip) (b : ℕ) where
   -- what a byte without a fault finds
@@ -19,16 +20,15 @@ module _ (image : List ℕ) (c : Chip) (b : ℕ) where
     pub image-valid : imageValid image ≡ true
     pub chip-valid : valid c ≡ true
     pub no-wait : waits (c .control .mode) (c .control .fifo .level) (commandOf b) ≡ false
-    pub not-beyond : beyond (c .control .mode) image (c .control .place .position) (commandOf b) ≡ false
+    pub not-beyond : beyond (c .control .mode) image (c .control .address .position) (commandOf b) ≡ false
 
   pub found : writeFault image c b ≡ 0 → Found
-  unfolding writeFault
+  unfolding commandFault
   found h =
-      let i = none-first (not (imageValid image)) 2 _ h in
-      let v = none-first (not (valid c)) 3 _ (i .1) in
-      let w = none-first (waits (c .control .mode) (c .control .fifo .level) (commandOf b)) 0 _ (v .1) in
-      let y = none-first (beyond (c .control .mode) image (c .control .place .position) (commandOf b)) 1 _ (w .1) in
-      record { image-valid = not-false _ (i .0); chip-valid = not-false _ (v .0); no-wait = w .0; not-beyond = y .0 }
+      let r = none-applies
+      ((not (imageValid image), IMAGE) ∷ (not (valid c), STATE) ∷ (waits (c .control .mode) (c .control .fifo .level) (commandOf b), WAIT) ∷
+      (beyond (c .control .mode) image (c .control .address .position) (commandOf b), BEYOND) ∷ []) tt h in
+      record { image-valid = not-false _ (r .0); chip-valid = not-false _ (r .1 .0); no-wait = r .1 .1 .0; not-beyond = r .1 .1 .1 .0 }
 
   module _ {n : ℕ} (e : n ≡ writeFault image c b) where
     pub write-refused : (n ≡ 0 → ⊥) → record { chip = c; refusal = n } ≡ writeOf image c b

@@ -9,7 +9,7 @@ use Rattle.chip.specs.State.{powerUp}
 use Rattle.chip.specs.Validity.{valid}
 use Rattle.chip.specs.Write.{writeOf}
 use Rattle.chip.specs.Read.{acknowledgeOf, readOf}
-use Rattle.chip.specs.Step.{steps, stepOf}
+use Rattle.chip.specs.Step.{stepTaken, stepOf}
 use Rattle.chip.specs.Run.{runOf}
 
 -- The power-up state is valid.
@@ -45,4 +45,4 @@ pub record SameStep (s t : Stepped) : Type 0 where
 -- sound.
 abbrev pub ControlAlone : Type 0
 ControlAlone =
-    (image voice voice′ : List ℕ) (c d : Chip) → c .control ≡ d .control → SameStep (steps image voice c) (steps image voice′ d)
+    (image voice voice′ : List ℕ) (c d : Chip) → c .control ≡ d .control → SameStep (stepTaken image voice c) (stepTaken image voice′ d)

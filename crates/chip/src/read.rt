@@ -5,13 +5,13 @@ use crate::state::Chip;
 use base::refusal::STATE;
 use base::refusal::TAKEN;
 
-// What an acknowledge answers: the next chip and the refusal number.
+// What an acknowledge returns: the next chip and the refusal number.
 pub struct Acknowledged {
     pub chip: Chip,
     pub refusal: u8,
 }
 
-// What a read answers besides: the byte that the bus gets.
+// What a read returns besides: the byte that the bus gets.
 pub struct ByteRead {
     pub chip: Chip,
     pub refusal: u8,
@@ -41,7 +41,7 @@ impl Chip {
         }
         let old = self.control;
         let port = old.port;
-        let control = old.with_port(port.acknowledged());
+        let control = old.with_port(port.acknowledge());
         let sound = self.sound;
         Acknowledged {
             chip: Chip { control, sound },

@@ -5,7 +5,9 @@ ghost use Prim.Native.Nat.{_≤_, min};
 ghost use lib.IntN.{pos};
 ghost use lib.ListN.{length, replicate};
 ghost use Rattle.base.specs.Steps.{stateAfter, outputs};
-ghost use Rattle.voice.specs.Layout.{pitches};
+ghost use Rattle.base.specs.Units.{samplesPerInterval};
+ghost use Rattle.rom.specs.Frames.{pitchBits};
+ghost use Rattle.clock.specs.Counters.{lastSample, leftOfInterval};
 ghost use Rattle.sound.specs.Sample.{valuesOf};
 ghost use Rattle.chip.specs.Validity.{valid};
 ghost use Rattle.chip.specs.Step.{stepFault};
@@ -13,8 +15,10 @@ ghost use Rattle.chip.specs.Run.{sampleStep, playedOn, runOf, bufferOf};
 use crate::state::Chip;
 use base::refusal::TAKEN;
 use base::units::Samples;
+use clock::Clock;
+use rom::frames::PITCH_BITS;
 
-// What a run answers: the next chip and the refusal number.
+// What a run returns: the next chip and the refusal number.
 pub struct Ran {
     pub chip: Chip,
     pub refusal: u8,
@@ -24,6 +28,14 @@ fn smaller(a: usize, b: usize) -> usize
     ensures { λ r. ⌜ r ≡ min a b ⌝ }
 {
     if a < b { a } else { b }
+}
+
+// The elements that the samples left of an interval take, in which one has been made.
+fn samples_left(clock: Clock) -> usize
+    requires { ⌜ clock .sample .0 ≤ lastSample ⌝ }
+    ensures { λ r. ⌜ r ≡ leftOfInterval clock ⌝ }
+{
+    clock.left_of_interval().count() as usize
 }
 
 // The samples of a chip that does not sound.
@@ -41,15 +53,15 @@ impl Chip {
     // Samples up to the end of an interval in which one has been made, one for each element: the sound is not interpolated
     // between them, and the control only counts.
     fn play_on(self, voice: &[u8], out: &mut [i16]) -> Chip
-        requires { ⌜ (valid self ≡ true) × (length (now out) ≤ 25) ⌝ }
+        requires { ⌜ (valid self ≡ true) × (length (now out) ≤ samplesPerInterval) ⌝ }
         ensures { λ r. ⌜ r ≡ playedOn (now (voice .entry)) (length (now (out .entry))) self ⌝ }
-        ensures { λ r. ⌜ now (out .exit) ≡ valuesOf pitches (now (voice .entry)) (length (now (out .entry))) (self .sound) ⌝ }
+        ensures { λ r. ⌜ now (out .exit) ≡ valuesOf pitchBits (now (voice .entry)) (length (now (out .entry))) (self .sound) ⌝ }
     {
         let old = self.control;
         let clock = old.clock;
-        let control = old.with_clock(clock.count_by(Samples(out.len() as u64)));
+        let control = old.with_clock(clock.count_by(Samples::of(out.len() as u64)));
         let before = self.sound;
-        let sound = before.play(voice, out);
+        let sound = before.play(voice, out, PITCH_BITS);
         Chip { control, sound }
     }
 
@@ -63,7 +75,7 @@ impl Chip {
         let mut i = 0;
         while i < out.len() {
             let clock = chip.control.clock;
-            let left = clock.left_of_interval().0 as usize;
+            let left = samples_left(clock);
             if left == 0 {
                 let stepped = chip.take_step(image, voice);
                 let next = stepped.chip;

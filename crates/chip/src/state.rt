@@ -1,7 +1,11 @@
 // The chip's value, its device numbers, and power-up.
 ghost use mathlib.Core.Path.{_≡_};
-ghost use Rattle.chip.specs.State.{powerUp};
+ghost use Rattle.chip.specs.State.{powerUp, deviceNumbers};
+use address::AddressRegister;
+use base::units::Frames;
+use base::units::Intervals;
 use control::state::Control;
+use fifo::Fifo;
 use sound::state::Sound;
 
 // The chip: what the host sees and steers, and the sound.
@@ -10,26 +14,41 @@ pub struct Chip {
     pub sound: Sound,
 }
 
-impl Chip {
-    pub const FIFO_SIZE: u8 = Control::FIFO_SIZE;
+// The device's numbers as a value.
+pub struct DeviceNumbers {
+    pub fifo_size: u8,
+    pub low_level: u8,
+    pub start_level: u8,
+    pub nibbles: u8,
+    pub image_limit: usize,
+    pub position_limit: usize,
+    pub rom_size: usize,
+    pub address_limit: usize,
+    pub samples_per_interval: u64,
+    pub intervals_per_frame: u64,
+}
 
-    pub const LOW_LEVEL: u8 = Control::LOW_LEVEL;
+impl Chip {
+    pub const FIFO_SIZE: u8 = Fifo::SIZE;
+
+    // BL is set with this many bytes held, or fewer; external speaking starts with that many.
+    pub const LOW_LEVEL: u8 = Fifo::LOW_LEVEL;
 
     pub const START_LEVEL: u8 = Control::START_LEVEL;
 
-    pub const IMAGE_LIMIT: usize = Control::IMAGE_LIMIT;
+    pub const NIBBLES: u8 = AddressRegister::NIBBLES;
 
-    pub const POSITION_LIMIT: usize = Control::POSITION_LIMIT;
+    pub const IMAGE_LIMIT: usize = rom::bits::IMAGE_LIMIT;
 
-    pub const ROM_SIZE: usize = Control::ROM_SIZE;
+    pub const POSITION_LIMIT: usize = AddressRegister::POSITION_LIMIT;
 
-    pub const ADDRESS_LIMIT: usize = Control::ADDRESS_LIMIT;
+    pub const ROM_SIZE: usize = AddressRegister::ROM_SIZE;
 
-    pub const NIBBLES: u8 = Control::NIBBLES;
+    pub const ADDRESS_LIMIT: usize = AddressRegister::ADDRESS_LIMIT;
 
-    pub const SAMPLES_PER_INTERVAL: u64 = Control::SAMPLES_PER_INTERVAL;
+    pub const SAMPLES_PER_INTERVAL: u64 = Intervals::SAMPLES;
 
-    pub const INTERVALS_PER_FRAME: u64 = Control::INTERVALS_PER_FRAME;
+    pub const INTERVALS_PER_FRAME: u64 = Frames::INTERVALS;
 
     // Operation: power-up.
     pub fn power_up() -> Chip
@@ -38,5 +57,23 @@ impl Chip {
         let control = Control::power_up();
         let sound = Sound::at_rest();
         Chip { control, sound }
+    }
+
+    // The constants above, which this promises to be those of the definitions.
+    pub fn device_numbers() -> DeviceNumbers
+        ensures { λ r. ⌜ r ≡ deviceNumbers ⌝ }
+    {
+        DeviceNumbers {
+            fifo_size: Self::FIFO_SIZE,
+            low_level: Self::LOW_LEVEL,
+            start_level: Self::START_LEVEL,
+            nibbles: Self::NIBBLES,
+            image_limit: Self::IMAGE_LIMIT,
+            position_limit: Self::POSITION_LIMIT,
+            rom_size: Self::ROM_SIZE,
+            address_limit: Self::ADDRESS_LIMIT,
+            samples_per_interval: Self::SAMPLES_PER_INTERVAL,
+            intervals_per_frame: Self::INTERVALS_PER_FRAME,
+        }
     }
 }

@@ -1,6 +1,6 @@
 // A byte written.
 ghost use mathlib.Core.Path.{_≡_};
-ghost use Rattle.chip.specs.Write.{writeFault, afterByte, writeOf};
+ghost use Rattle.chip.specs.Write.{commandFault, afterByte, writeOf};
 use crate::state::Chip;
 use base::refusal::BEYOND;
 use base::refusal::IMAGE;
@@ -9,19 +9,20 @@ use base::refusal::TAKEN;
 use base::refusal::WAIT;
 use bus::accept::accept;
 use bus::commands::Accepted;
+use control::commands::Command;
 use control::commands::command_of;
 use rom::bits::image_valid;
 use sound::state::Sound;
 
-// What a written byte answers: the next chip and the refusal number.
+// What a written byte returns: the next chip and the refusal number.
 pub struct Written {
     pub chip: Chip,
     pub refusal: u8,
 }
 
 impl Chip {
-    fn write_fault(self, image: &[u8], byte: u8) -> u8
-        ensures { λ r. ⌜ r ≡ writeFault (now (image .entry)) self byte ⌝ }
+    fn command_fault(self, image: &[u8], command: Command) -> u8
+        ensures { λ r. ⌜ r ≡ commandFault (now (image .entry)) self command ⌝ }
     {
         if !image_valid(image) {
             return IMAGE;
@@ -29,13 +30,12 @@ impl Chip {
         if !self.valid() {
             return STATE;
         }
-        let command = command_of(byte);
         let control = self.control;
         let mode = control.mode;
         if mode.waits(control.fifo.level, command) {
             return WAIT;
         }
-        if mode.beyond(image, control.place.position, command) {
+        if mode.beyond(image, control.address.position, command) {
             return BEYOND;
         }
         TAKEN
@@ -59,7 +59,8 @@ impl Chip {
     pub fn write(self, image: &[u8], byte: u8) -> Written
         ensures { λ r. ⌜ r ≡ writeOf (now (image .entry)) self byte ⌝ }
     {
-        let fault = self.write_fault(image, byte);
+        let command = command_of(byte);
+        let fault = self.command_fault(image, command);
         if fault != TAKEN {
             return Written {
                 chip: self,
@@ -67,7 +68,7 @@ impl Chip {
             };
         }
         let control = self.control;
-        let chip = self.after_byte(accept(control, image, byte));
+        let chip = self.after_byte(accept(control, image, byte, command));
         Written {
             chip,
             refusal: TAKEN,

@@ -15,4 +15,4 @@ acknowledge-spec =
     (λ c.
     let b = c .before .before in
     acknowledge-taken _ (b .before .before .before .before .read-fault .ensures) (b .before .before .before .if1 .left)
-    (rw (c .before .with-port .ensures, b .acknowledged .ensures))))
+    (rw (c .before .with-port .ensures, b .acknowledge .ensures))))

@@ -8,7 +8,7 @@ use borrow.Rule.Slice.PartMut.{midOf, mid-len}
 use lib.ListN.{length}
 use denote.Ref.{now}
 use Rattle.base.proofs.Steps.{Filled, filled-none, filled-more, filled-part, filled-all}
-use Rattle.control.specs.Counters.{leftOfInterval}
+use Rattle.clock.specs.Counters.{leftOfInterval}
 use Rattle.chip.specs.Types.{Chip}
 use Rattle.chip.specs.Step.{stepFault}
 use Rattle.chip.specs.Run.{sampleStep}
@@ -26,8 +26,8 @@ Inv-loop image voice out₀ chip₀ i₀ out chip i =
 abbrev μ-loop : tie.MeasureT-loop
 μ-loop image voice out₀ chip₀ i₀ out chip i = length out₀ - i
 
-left-of-interval-requires : tie.Need-left-of-interval-requires Inv-loop μ-loop
-left-of-interval-requires c κs =
+samples-left-requires : tie.Need-samples-left-requires Inv-loop μ-loop
+samples-left-requires c κs =
     let l = c .before .before .loop in
     valid-clock (l .chip) (passed _ _ (l .chip) (l .inv .holds) .chip-valid) .0
 
@@ -43,7 +43,7 @@ loop-again c =
 part : (c : tie.After-smaller Inv-loop μ-loop) → let l = c .before .before .before .before .before .loop in let n = c .smaller .result in
     (1 ≤ leftOfInterval (l .chip .control .clock)) × (n ≤ leftOfInterval (l .chip .control .clock)) × (1 ≤ n) × (l .i + n ≤ length (l .out))
 part c =
-    let e = c .before .before .left-of-interval .ensures in
+    let e = c .before .before .samples-left .ensures in
     let some = c .before .if1 .left in
     omega (arith, e, some, c .smaller .ensures, c .before .before .before .before .loop-test .taken)
 
@@ -72,7 +72,7 @@ fill-spec =
     Inv-loop
     μ-loop
     (λ c. filled-none _ _ _ _ (c .before .before .pre))
-    left-of-interval-requires
+    samples-left-requires
     (λ c κs. c .before .before .before .before .loop .inv .holds)
     (λ c. search (needs, c .before .before .before .before .before .before .before .before .before .before .good .1 .1 .1 .0 .1))
     (λ c. search needs)
