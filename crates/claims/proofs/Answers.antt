@@ -1,4 +1,4 @@
--- What a valid chip answers on a valid image: a step and a run by their voice file, a written byte by the refusal table, a
+-- What a valid chip returns on a valid image: a step and a run by their voice file, a written byte by the refusal table, a
 -- read with the status.
 -- Assumes nothing.
 use mathlib.Core.Path.{_≡_, refl, sym}
@@ -12,16 +12,15 @@ use Rattle.base.specs.Steps.{stateAfter}
 use Rattle.rom.specs.Bits.{imageValid}
 use Rattle.control.specs.Commands.{commandOf, waits, beyond}
 use Rattle.control.specs.Status.{statusOf, acknowledgedPort}
-use Rattle.control.specs.declared.state.Mode.the-variants.{Idle, Rom}
 use Rattle.control.specs.declared.state.Port.{Port}
 use Rattle.control.specs.declared.state.Control.{Control}
 use Rattle.chip.specs.Validity.{valid}
-use Rattle.chip.specs.Write.{writeFault}
+use Rattle.chip.specs.Write.{commandFault, writeFault}
 use Rattle.chip.specs.Read.{acknowledged, acknowledgeOf, readOf}
-use Rattle.chip.specs.Step.{steps, stepFault, notStepped, stepOf}
+use Rattle.chip.specs.Step.{stepTaken, stepFault, notStepped, stepOf}
 use Rattle.chip.specs.Run.{sampleStep, notRun, runOf}
 use Rattle.chip.specs.declared.state.Chip.{Chip}
-use Rattle.claims.specs.Demand3.{faultOf}
+use Rattle.claims.specs.Device.{faultOf, modeOf, talkStatus}
 
 module _ (image voice : List ℕ) (c : Chip) (i : imageValid image ≡ true) (v : valid c ≡ true) where
   -- the fault of a step is that of its voice file
@@ -33,7 +32,7 @@ module _ (image voice : List ℕ) (c : Chip) (i : imageValid image ≡ true) (v 
       go true e = sym (eqb-true (faultOf voice) 0 e)
       go false e = refl
 
-  pub step-by-voice : {t : Bool} → eqb (faultOf voice) 0 ≡ t → stepOf image voice c ≡ cond t (steps image voice c) (notStepped c (faultOf voice))
+  pub step-by-voice : {t : Bool} → eqb (faultOf voice) 0 ≡ t → stepOf image voice c ≡ cond t (stepTaken image voice c) (notStepped c (faultOf voice))
   unfolding stepOf
   step-by-voice e = rw (step-fault, e)
 
@@ -45,8 +44,8 @@ module _ (image voice : List ℕ) (c : Chip) (i : imageValid image ≡ true) (v 
 pub write-fault : (image : List ℕ) (c : Chip) (b : ℕ) → imageValid image ≡ true → valid c ≡ true
     → writeFault image c b
     ≡ firstFault ((waits (c .control .mode) (c .control .fifo .level) (commandOf b), WAIT) ∷
-    (beyond (c .control .mode) image (c .control .place .position) (commandOf b), BEYOND) ∷ [])
-unfolding writeFault
+    (beyond (c .control .mode) image (c .control .address .position) (commandOf b), BEYOND) ∷ [])
+unfolding commandFault
 write-fault image c b i v = rw (i, v)
 
 module _ (c : Chip) (v : valid c ≡ true) where
@@ -66,6 +65,6 @@ pub still-none : (p : Port) → p .pending ≡ false → acknowledgedPort p .pen
 still-none p e = rw e
 
 -- the status: BL and BE are set, and TS with the mode
-pub status-is : (t : Bool) (k : Control) → k .mode ≡ cond t Rom Idle → k .fifo .level ≡ 0 → statusOf k ≡ cond t 0xE0 0x60
+pub status-is : (t : Bool) (k : Control) → k .mode ≡ modeOf t → k .fifo .level ≡ 0 → statusOf k ≡ talkStatus t
 status-is true k m l = rw (m, l)
 status-is false k m l = rw (m, l)

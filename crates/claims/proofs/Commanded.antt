@@ -11,15 +11,15 @@ use Rattle.control.specs.declared.commands.Command.{Command}
 use Rattle.bus.specs.Commands.{obeyed}
 use Rattle.bus.proofs.Accepting.{in-mode}
 use Rattle.chip.specs.Validity.{valid}
-use Rattle.chip.specs.Write.{writeFault, afterByte, writeOf}
+use Rattle.chip.specs.Write.{commandFault, writeFault, afterByte, writeOf}
 use Rattle.chip.specs.declared.state.Chip.{Chip}
 use Rattle.chip.proofs.Writing.{write-taken}
 
 -- a command that is not beyond the image is taken and obeyed
 pub obeys : (image : List ℕ) (c : Chip) (b : ℕ) (k : Command) → imageValid image ≡ true → valid c ≡ true → c .control .mode ≡ Idle
-    → commandOf b ≡ k → beyondAt image (c .control .place .position) k ≡ false
+    → commandOf b ≡ k → beyondAt image (c .control .address .position) k ≡ false
     → writeOf image c b ≡ record { chip = afterByte c (obeyed image (c .control) b k); refusal = 0 }
-unfolding writeFault
+unfolding commandFault
 obeys image c b k i v m e n =
     sym (write-taken image c b (sym fault) refl (in-mode image (c .control) b m (sym (ap (obeyed image (c .control) b) e))) refl)
   where

@@ -10,9 +10,9 @@ use Rattle.sound.specs.Noise.{noiseBit, nextNoise}
 use Rattle.control.specs.Validity.{controlValid}
 use Rattle.bus.specs.Accept.{accepted}
 use Rattle.chip.specs.Validity.{valid}
-use Rattle.chip.specs.Write.{writeFault, writeOf}
+use Rattle.chip.specs.Write.{commandFault, writeOf}
 use Rattle.claims.specs.Cases.{cases, CasesHold}
 
 pub cases-hold : CasesHold
-unfolding cases walkOf itemsFrom frameAt decoded field bit digits writeOf writeFault accepted valid controlValid soundValid atRest nextNoise noiseBit
+unfolding cases walkOf itemsFrom frameAt decoded field bit digits writeOf commandFault accepted valid controlValid soundValid atRest nextNoise noiseBit
 cases-hold = refl

@@ -1,36 +1,27 @@
 -- Demand 3 holds.
 -- Assumes nothing.
 use mathlib.Core.Path.{_≡_, refl, sym, ap, ap₂, _∙_}
-use mathlib.Core.List.{List, [], _∷_, _++_}
+use mathlib.Core.List.{List, [], _∷_, _++_, map}
 use Prim.Native.Nat.{ℕ, _+_, _*_, _≤_}
-use native.Mathlib.Omega.{arith}
-use borrow.Author.Tests.{le-leb}
+use lib.ListN.{length}
 use Rattle.rom.specs.Frames.{pitchBits}
-use Rattle.rom.specs.Items.{Ended, last, more}
-use Rattle.rom.specs.Phrases.{frameCode, PhraseAt, framesAt}
+use Rattle.rom.specs.Phrases.{PhraseAt, framesAt}
 use Rattle.rom.specs.declared.frames.Frame.{Frame}
 use Rattle.rom.specs.declared.phrases.Walked.{Walked}
-use Rattle.rom.proofs.ItemLaws.{has-stop}
 use Rattle.rom.proofs.Theorems.{walk-accepts, walk-counts, phrase-unique, frames-read}
-use Rattle.claims.specs.Schedule.{samplesOfFrame, totalBits, dueFrom, endFrom, endStep}
-use Rattle.claims.specs.Demand3.{positionDue, Demand3}
+use Rattle.schedule.specs.Form.{plain}
+use Rattle.schedule.proofs.Plain.{plain-bits, plain-ended}
+use Rattle.schedule.proofs.Numbers.{just-after}
+use Rattle.claims.specs.Device.{chipForm}
+use Rattle.claims.specs.Demand3.{totalBits, endStep, positionDue, Demand3}
 use Rattle.claims.proofs.Opening.{opening}
-use Rattle.claims.proofs.Calls.{core}
-
--- ---- a phrase from its stop's step on
-
--- all its frames are due
-all-due : {fs : List Frame} → Ended (frameCode pitchBits) fs → (at n : ℕ) → endFrom at fs ≤ n → (at ≤ n) × (dueFrom at fs n ≡ fs)
-unfolding dueFrom endFrom
-all-due (last s) at n h = let l : at ≤ n = rw s at h in (l, rw (le-leb at n l))
-all-due (more {f = f} {fs = fs} s d) at n h =
-    let r = all-due d (at + samplesOfFrame f) n (rw s at h) in
-    let l : at ≤ n = omega (arith, r .0) in
-    (l, rw (le-leb at n l, r .1))
+use Rattle.claims.proofs.Instance.{core}
 
 ends-past : (image : List ℕ) (a : ℕ) {fs : List Frame} → PhraseAt pitchBits image a fs → (n : ℕ) → endStep fs ≤ n
     → positionDue image a fs n ≡ 8 * a + totalBits fs
-ends-past image a p n h = rw (has-stop (p .ended), all-due (p .ended) 1 n h .1)
+ends-past image a {fs} p n h =
+    just-after chipForm (8 * a) (8 * length image) (map plain fs) (plain-ended pitchBits (p .ended)) n h
+    ∙ ap (λ (bs : List ℕ). 8 * a + length bs) (plain-bits pitchBits fs)
 
 pub demand-3 : Demand3
 demand-3 image a i inside = record {

@@ -12,9 +12,10 @@ use Rattle.rom.specs.Reader.{decoded, frameAt}
 use Rattle.rom.specs.Items.{itemsFrom}
 use Rattle.rom.specs.Phrases.{framesAt}
 use Rattle.rom.proofs.Theorems.{frames-read}
+use Rattle.schedule.specs.Schedule.{dueFrom, endFrom, toldFrom}
+use Rattle.schedule.specs.Calls
 use Rattle.voice.specs.Layout.{twosComplement}
 use Rattle.voice.specs.Check.{entriesValid, voiceFault}
-use Rattle.claims.specs.Schedule.{dueFrom, endFrom, reportFrom}
 use Rattle.claims.specs.Demand3.{answersDue, WritesRefused}
 use Rattle.claims.specs.Example.{voice, loads, speak, Example, phrase, noPhrase, Holds}
 use Rattle.claims.proofs.Demand3.{demand-3}
@@ -32,10 +33,10 @@ holds e i inside f g h =
     }
 
 pub phrase-holds : Holds phrase
-unfolding itemsFrom frameAt decoded field bit WritesRefused answersDue dueFrom endFrom reportFrom voice voiceFault entriesValid twosComplement digits
+unfolding itemsFrom frameAt decoded field bit Calls.WritesRefused Calls.answersDue dueFrom endFrom toldFrom voice voiceFault entriesValid twosComplement digits
 phrase-holds =
     holds phrase refl (omega arith) refl (tt, (eqb-false _ 0 refl, (tt, (tt, (tt, (tt, (tt, (tt, (tt, (tt, (tt, (eqb-false _ 0 refl, (tt, (tt, tt)))))))))))))) refl
 
 pub no-phrase-holds : Holds noPhrase
-unfolding itemsFrom frameAt decoded field bit WritesRefused answersDue dueFrom endFrom reportFrom voice voiceFault entriesValid twosComplement digits
+unfolding itemsFrom frameAt decoded field bit Calls.WritesRefused Calls.answersDue dueFrom endFrom toldFrom voice voiceFault entriesValid twosComplement digits
 no-phrase-holds = holds noPhrase refl (omega arith) refl (tt, (tt, (tt, (tt, (eqb-false _ 0 refl, (tt, tt)))))) refl

@@ -1,12 +1,8 @@
 pub mod Computed
-pub mod Numbers
-pub mod Chain
-pub mod Boundary
-pub mod Progress
-pub mod Speech
 pub mod Commanded
 pub mod Opening
+pub mod Moves
 pub mod Answers
-pub mod Calls
+pub mod Instance
 pub mod Demand3
 pub mod Example

@@ -6,14 +6,14 @@ use mathlib.Core.List.{List, [], _∷_, map}
 use Prim.Native.Nat.{ℕ, _+_, _*_, _/_, _%_, _^_, _≤_, _<_}
 use native.Mathlib.Nat.{mod-eq-of-lt, div-eq-of-lt, mod-lt, mul-le-mul-right, zero-mul, zero-add}
 use native.Mathlib.Omega.{arith}
-use borrow.Author.Tests.{le-leb}
+use borrow.Author.Tests.{le-leb, lt-ltb}
 use lib.Arith.{mod-mul}
 use Rattle.rom.specs.Bits.{imageValid}
 use Rattle.rom.proofs.Checks.{valid-length}
 use Rattle.sound.specs.State.{soundValid, restSound, atRest}
-use Rattle.control.specs.State.{positionLimit, addressLimit, powerUpControl, withPlace}
+use Rattle.address.specs.Addresses.{positionLimit, addressLimit, nibbles, withNibble}
+use Rattle.control.specs.State.{powerUpControl, withAddress}
 use Rattle.control.specs.Validity.{controlValid}
-use Rattle.control.specs.Addresses.{withNibble}
 use Rattle.control.specs.Commands.{commandOf}
 use Rattle.control.specs.declared.commands.Command.the-variants.{LoadAddress}
 use Rattle.chip.specs.State.{powerUp}
@@ -27,11 +27,11 @@ use Rattle.claims.proofs.Commanded.{obeys}
 
 -- power-up, at another place
 abbrev placed : ℕ → ℕ → Chip
-placed p i = record { control = withPlace (record { position = p; nibble = i }) powerUpControl; sound = restSound }
+placed p i = record { control = withAddress (record { position = p; «next_nibble» = i }) powerUpControl; sound = restSound }
 
-placed-valid : (p i : ℕ) → p ≤ positionLimit → i ≤ 4 → valid (placed p i) ≡ true
+placed-valid : (p i : ℕ) → p ≤ positionLimit → i < nibbles → valid (placed p i) ≡ true
 unfolding valid controlValid soundValid atRest
-placed-valid p i l n = rw (le-leb p positionLimit l, le-leb i 4 n)
+placed-valid p i l n = rw (le-leb p positionLimit l, lt-ltb i nibbles n)
 
 -- ---- a nibble
 
@@ -51,8 +51,8 @@ fifth-above x v q h g d = rw e (omega arith)
     e = omega arith
 
 module _ (image : List ℕ) (i : imageValid image ≡ true) (a : ℕ) where
-  loads-at : (p n b : ℕ) → p ≤ positionLimit → n ≤ 4 → commandOf b ≡ LoadAddress
-      → writeOf image (placed p n) b ≡ record { chip = placed (8 * withNibble (p / 8 % addressLimit) n (b % 16)) ((n + 1) % 5); refusal = 0 }
+  loads-at : (p n b : ℕ) → p ≤ positionLimit → n < nibbles → commandOf b ≡ LoadAddress
+      → writeOf image (placed p n) b ≡ record { chip = placed (8 * withNibble (p / 8 % addressLimit) n (b % 16)) ((n + 1) % nibbles); refusal = 0 }
   loads-at p n b h g e = obeys image (placed p n) b LoadAddress i (placed-valid p n h g) refl e refl
 
   -- each of the first four loads
@@ -60,7 +60,7 @@ module _ (image : List ℕ) (i : imageValid image ≡ true) (a : ℕ) where
       → writeOf image (placed (8 * (a % 16 ^ n)) n) b ≡ record { chip = placed (8 * (a % (16 * 16 ^ n))) (n + 1); refusal = 0 }
   loads n b l w o e d =
       let low = mod-lt a o in
-      let next : (n + 1) % 5 ≡ n + 1 = omega arith in
+      let next : (n + 1) % nibbles ≡ n + 1 = omega arith in
       loads-at (8 * (a % 16 ^ n)) n b (omega arith) (omega arith) e
       ∙ ap₂ (λ (x y : ℕ). record { chip = placed (8 * x) y; refusal = 0 })
       (ap (λ (v : ℕ). withNibble (8 * (a % 16 ^ n) / 8 % addressLimit) n v) d

@@ -4,9 +4,10 @@ use mathlib.Core.List.{List, [], _∷_, map}
 use Prim.Native.Nat.{ℕ, zero, suc, _/_}
 use lib.IntN.{ℤ, pos}
 use Rattle.base.specs.Refusals.{TAKEN, BEYOND, NO-PHRASE}
+use Rattle.base.specs.Units.{intervals}
 use Rattle.rom.specs.Frames.{pitchBits}
 use Rattle.rom.specs.Phrases.{walkOf}
-use Rattle.sound.specs.Interpolation.{divisors, towardBy}
+use Rattle.sound.specs.Interpolation.{divisor, towardBy}
 use Rattle.sound.specs.Noise.{nextNoise}
 use Rattle.chip.specs.State.{powerUp}
 use Rattle.claims.specs.Writes.{afterBytes}
@@ -26,14 +27,18 @@ walked image a = let w = walkOf pitchBits image a in numbers (w .refusal ∷ w .
 
 -- the byte address of a chip fresh from power-up after written bytes
 abbrev address : List ℕ → List ℕ → List ℤ
-address image bytes = numbers (afterBytes image powerUp bytes .control .place .position / 8 ∷ [])
+address image bytes = numbers (afterBytes image powerUp bytes .control .address .position / 8 ∷ [])
 
--- a current number on its way to a target, by the divisors of the intervals
+-- a current number on its way to a target, by the divisors of intervals
 abbrev runs : List ℕ → ℤ → ℤ → List ℤ
 runs [] current target = []
-runs (d ∷ ds) current target = let next = towardBy d current target in next ∷ runs ds next target
+runs (i ∷ is) current target = let next = towardBy (divisor (intervals i)) current target in next ∷ runs is next target
 
--- a noise register and what it becomes, so many in all
+-- the intervals of a frame
+abbrev all : List ℕ
+all = 0 ∷ 1 ∷ 2 ∷ 3 ∷ 4 ∷ 5 ∷ 6 ∷ 7 ∷ []
+
+-- a noise register and what it becomes, n in all
 abbrev noises : ℕ → ℕ → List ℕ
 noises zero register = []
 noises (suc n) register = register ∷ noises n (nextNoise register)
@@ -49,9 +54,9 @@ cases =
     record { given = walked (0xFF ∷ []) 1; paper = numbers (BEYOND ∷ 0 ∷ 0 ∷ []) } ∷
     record { given = address (0xFF ∷ []) (0x41 ∷ 0x42 ∷ 0x43 ∷ 0x40 ∷ 0x40 ∷ []); paper = numbers (801 ∷ []) } ∷
     record { given = address (0x05 ∷ 0xC0 ∷ []) (0x30 ∷ []); paper = numbers (5 ∷ []) } ∷
-    record { given = runs divisors (pos 0) (pos 80); paper = numbers (10 ∷ 18 ∷ 25 ∷ 38 ∷ 48 ∷ 64 ∷ 72 ∷ 80 ∷ []) } ∷
-    record { given = runs divisors (pos 5) (pos 0); paper = numbers (4 ∷ 3 ∷ 2 ∷ 1 ∷ 0 ∷ 0 ∷ 0 ∷ 0 ∷ []) } ∷
-    record { given = runs divisors (pos 0) (pos 5); paper = numbers (0 ∷ 0 ∷ 0 ∷ 1 ∷ 2 ∷ 3 ∷ 4 ∷ 5 ∷ []) } ∷
+    record { given = runs all (pos 0) (pos 80); paper = numbers (10 ∷ 18 ∷ 25 ∷ 38 ∷ 48 ∷ 64 ∷ 72 ∷ 80 ∷ []) } ∷
+    record { given = runs all (pos 5) (pos 0); paper = numbers (4 ∷ 3 ∷ 2 ∷ 1 ∷ 0 ∷ 0 ∷ 0 ∷ 0 ∷ []) } ∷
+    record { given = runs all (pos 0) (pos 5); paper = numbers (0 ∷ 0 ∷ 0 ∷ 1 ∷ 2 ∷ 3 ∷ 4 ∷ 5 ∷ []) } ∷
     record { given = numbers (noises 4 8191); paper = numbers (8191 ∷ 8190 ∷ 8189 ∷ 8186 ∷ []) } ∷
     []
 

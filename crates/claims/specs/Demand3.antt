@@ -2,33 +2,29 @@
 -- bit, whatever is called in between.
 use mathlib.Core.Path.{_≡_}
 use mathlib.Core.Logic.{_↔_}
-use mathlib.Core.Bool.{true, false, cond}
-use mathlib.Core.List.{List, [], _∷_, _++_}
+use mathlib.Core.Bool.{true, false}
+use mathlib.Core.List.{List, [], _∷_, _++_, map}
 use Prim.Native.Nat.{ℕ, _+_, _*_, _/_, _%_, _≤_, _<_}
-use lib.Dec.{eqb}
 use lib.ListN.{length}
-use Rattle.base.specs.Refusals.{TAKEN, WAIT, BEYOND, firstFault}
+use Rattle.base.specs.Refusals.{TAKEN}
 use Rattle.rom.specs.Bits.{imageValid}
 use Rattle.rom.specs.Frames.{pitchBits}
-use Rattle.rom.specs.Phrases.{PhraseAt, FramesThere, accepted, walkOf}
+use Rattle.rom.specs.Items.{bitsAll}
+use Rattle.rom.specs.Phrases.{frameCode, PhraseAt, FramesThere, walkAccepted, walkOf}
 use Rattle.rom.specs.declared.frames.Frame.{Frame}
-use Rattle.voice.specs.Layout.{pitches}
-use Rattle.voice.specs.Check.{voiceFault, version}
-use Rattle.control.specs.Commands.{commandOf, waits, beyond}
-use Rattle.control.specs.declared.state.Mode.{Mode}
-use Rattle.control.specs.declared.state.Mode.the-variants.{Idle, Rom}
+use Rattle.schedule.specs.Form.{plain}
+use Rattle.schedule.specs.Schedule
+use Rattle.schedule.specs.Calls
+use Rattle.schedule.specs.Calls.{Call, Answer}
+use Rattle.control.specs.Commands.{commandOf}
+use Rattle.control.specs.declared.state.Mode.the-variants.{Idle}
 use Rattle.control.specs.declared.commands.Command.the-variants.{LoadAddress, Speak}
 use Rattle.chip.specs.State.{powerUp}
 use Rattle.chip.specs.Validity.{valid}
 use Rattle.chip.specs.Write.{writeOf}
-use Rattle.chip.specs.Read.{readOf}
-use Rattle.chip.specs.Step.{stepOf}
-use Rattle.chip.specs.Run.{runOf}
 use Rattle.chip.specs.declared.state.Chip.{Chip}
-use Rattle.chip.specs.declared.step.Report.{Report}
-use Rattle.chip.specs.declared.step.Report.the-variants.{Nothing}
 use Rattle.claims.specs.Writes.{afterBytes, refusalsOf}
-use Rattle.claims.specs.Schedule.{totalBits, endStep, reportAt, talksAfter, positionAfter}
+use Rattle.claims.specs.Device.{chipForm, chipOn, chipTable}
 
 -- ---- the five loads and Speak
 
@@ -66,146 +62,36 @@ pub record SpeakByte : Type 0 where
 abbrev pub speaking : List ℕ → {a : ℕ} → Loads a → SpeakByte → Chip
 speaking image l s = afterBytes image powerUp (loadBytes l ++ (s .byte ∷ []))
 
--- ---- the calls
-
--- a call of the list
-pub data Call : Type 0 where
-  -- a sample step, with a voice file
-  step : List ℕ → Call
-  -- a run, with a voice file, into a buffer of so many elements
-  run : List ℕ → ℕ → Call
-  -- a byte read
-  read : Call
-  -- a byte written
-  write : ℕ → Call
-
--- what a call answers, and the position of the chip that it hands back. The byte is a read's and the report that of a step
--- called alone
-pub record Answer : Type 0 where
-  pub refusal : ℕ
-  pub byte : ℕ
-  pub report : Report
-  pub position : ℕ
-
--- the chip that a call hands back
-abbrev pub chipAfter : List ℕ → Chip → Call → Chip
-chipAfter image c (step voice) = stepOf image voice c .chip
-chipAfter image c (run voice n) = runOf image voice c n .chip
-chipAfter image c read = readOf c .chip
-chipAfter image c (write b) = writeOf image c b .chip
-
--- its refusal number
-abbrev pub refusalOf : List ℕ → Chip → Call → ℕ
-refusalOf image c (step voice) = stepOf image voice c .refusal
-refusalOf image c (run voice n) = runOf image voice c n .refusal
-refusalOf image c read = readOf c .refusal
-refusalOf image c (write b) = writeOf image c b .refusal
-
--- the byte read
-abbrev pub byteOf : Chip → Call → ℕ
-byteOf c (step voice) = 0
-byteOf c (run voice n) = 0
-byteOf c read = readOf c .byte
-byteOf c (write b) = 0
-
--- the report of a step
-abbrev pub reportOf : List ℕ → Chip → Call → Report
-reportOf image c (step voice) = stepOf image voice c .report
-reportOf image c (run voice n) = Nothing
-reportOf image c read = Nothing
-reportOf image c (write b) = Nothing
-
--- all of it
-abbrev pub answerOf : List ℕ → Chip → Call → Answer
-answerOf image c x = record {
-  refusal = refusalOf image c x;
-  byte = byteOf c x;
-  report = reportOf image c x;
-  position = chipAfter image c x .control .place .position;
-}
+-- ---- the calls, and what is due of the frames fs at byte a; the crate `schedule` defines both over any form of frames
 
 -- the answers to a list of calls: each call gets the chip that the last one handed back, and the same image
-unfoldable pub answersOf : List ℕ → Chip → List Call → List Answer
-answersOf image c [] = []
-answersOf image c (x ∷ xs) = answerOf image c x ∷ answersOf image (chipAfter image c x) xs
-
--- ---- the answers that are due
-
--- the fault of a voice file
-abbrev pub faultOf : List ℕ → ℕ
-faultOf voice = voiceFault pitches version voice
-
--- the steps that a call takes: one, or one for each element of a run's buffer, but none with a voice file that is not valid
-abbrev pub stepsIn : Call → ℕ
-stepsIn (step voice) = cond (eqb (faultOf voice) TAKEN) 1 0
-stepsIn (run voice n) = cond (eqb (faultOf voice) TAKEN) n 0
-stepsIn read = 0
-stepsIn (write b) = 0
+abbrev pub answersOf : List ℕ → Chip → List Call → List Answer
+answersOf image = Calls.answersOf (chipOn image)
 
 module _ (image : List ℕ) (a : ℕ) (fs : List Frame) where
-  -- the position after n steps, from the first bit of byte a
-  abbrev pub positionDue : ℕ → ℕ
-  positionDue n = positionAfter (8 * a) (8 * length image) fs n
-
-  -- the mode after n steps: speaking from ROM before the end, idle from it on
-  abbrev pub modeDue : ℕ → Mode
-  modeDue n = cond (talksAfter fs n) Rom Idle
-
-  -- the refusal table's number for a byte written after n steps: 1, then 2. No byte is held
-  abbrev pub writeDue : ℕ → ℕ → ℕ
-  writeDue n b =
-      firstFault ((waits (modeDue n) 0 (commandOf b), WAIT) ∷ (beyond (modeDue n) image (positionDue n) (commandOf b), BEYOND) ∷ [])
-
-  -- the number of a call after n steps: a step or run is refused exactly when its voice file is not valid
-  abbrev pub refusalDue : ℕ → Call → ℕ
-  refusalDue n (step voice) = faultOf voice
-  refusalDue n (run voice m) = faultOf voice
-  refusalDue n read = TAKEN
-  refusalDue n (write b) = writeDue n b
-
-  -- each read gives the status, with TS exactly before the end; BL and BE are set
-  abbrev pub byteDue : ℕ → Call → ℕ
-  byteDue n (step voice) = 0
-  byteDue n (run voice m) = 0
-  byteDue n read = cond (talksAfter fs n) 0xE0 0x60
-  byteDue n (write b) = 0
-
-  -- a taken step after n others has the number n + 1; a refused one reports nothing
-  abbrev pub reportDue : ℕ → Call → Report
-  reportDue n (step voice) = cond (eqb (faultOf voice) TAKEN) (reportAt fs (n + 1)) Nothing
-  reportDue n (run voice m) = Nothing
-  reportDue n read = Nothing
-  reportDue n (write b) = Nothing
-
-  -- the answer that is due to a call after n steps
-  abbrev pub answerDue : ℕ → Call → Answer
-  answerDue n x = record {
-    refusal = refusalDue n x;
-    byte = byteDue n x;
-    report = reportDue n x;
-    position = positionDue (n + stepsIn x);
-  }
+  -- the written bytes of a list are those that the refusal table refuses there, the first call being after n steps
+  abbrev pub WritesRefused : ℕ → List Call → Type 0
+  WritesRefused = Calls.WritesRefused chipForm (chipTable image) (8 * a) (8 * length image) (map plain fs)
 
   -- the answers that are due to a list of calls, the first of them after n steps
-  unfoldable pub answersDue : ℕ → List Call → List Answer
-  answersDue n [] = []
-  answersDue n (x ∷ xs) = answerDue n x ∷ answersDue (n + stepsIn x) xs
-
-  -- a written byte of the list is one that the refusal table refuses there
-  abbrev pub Refused : ℕ → Call → Type 0
-  Refused n (step voice) = Unit {0}
-  Refused n (run voice m) = Unit {0}
-  Refused n read = Unit {0}
-  Refused n (write b) = writeDue n b ≡ TAKEN → ⊥
-
-  -- and so is each of the list, the first call being after n steps
-  unfoldable pub WritesRefused : ℕ → List Call → Type 0
-  WritesRefused n [] = Unit {0}
-  WritesRefused n (x ∷ xs) = Refused n x × WritesRefused (n + stepsIn x) xs
+  abbrev pub answersDue : ℕ → List Call → List Answer
+  answersDue = Calls.answersDue chipForm (chipTable image) (8 * a) (8 * length image) (map plain fs)
 
   -- every list of calls on the chip c, whose written bytes are refused there, gets the answers that are due
   abbrev pub AnswersDue : Chip → Type 0
   AnswersDue c = (xs : List Call) → WritesRefused 0 xs → answersOf image c xs ≡ answersDue 0 xs
+
+  -- the position after n steps: 8a plus the bits of the frames due so far, or the image's end after running out
+  abbrev pub positionDue : ℕ → ℕ
+  positionDue = Schedule.positionAfter chipForm (8 * a) (8 * length image) (map plain fs)
+
+-- the step of the end: the stop's or, without one, running out, where the next frame would be due
+abbrev pub endStep : List Frame → ℕ
+endStep fs = Schedule.endStep chipForm (map plain fs)
+
+-- the bits of frames, as many as the table of kinds gives them
+abbrev pub totalBits : List Frame → ℕ
+totalBits fs = length (bitsAll (frameCode pitchBits) fs)
 
 -- ---- the opening and the core, each a theorem of its own
 
@@ -214,7 +100,7 @@ pub record Ready (a : ℕ) (c : Chip) : Type 0 where
   pub is-valid : valid c ≡ true
   pub is-idle : c .control .mode ≡ Idle
   pub no-data : c .control .port .pending ≡ false
-  pub at-byte : c .control .place .position ≡ 8 * a
+  pub at-byte : c .control .address .position ≡ 8 * a
 
 -- The opening: power-up takes the five loads, and the chip is then ready at a.
 abbrev pub Opening : Type 0
@@ -237,7 +123,7 @@ pub record AtAddress (image : List ℕ) (a : ℕ) : Type 0 where
   -- the walk accepts the address exactly when a phrase begins there
   pub accepts : (walkOf pitchBits image a .refusal ≡ TAKEN) ↔ ((fs : List Frame) × PhraseAt pitchBits image a fs)
   -- and reports how many frames the phrase has and the sum of their bits
-  pub counts : (fs : List Frame) → PhraseAt pitchBits image a fs → walkOf pitchBits image a ≡ accepted (totalBits fs) (length fs)
+  pub counts : (fs : List Frame) → PhraseAt pitchBits image a fs → walkOf pitchBits image a ≡ walkAccepted (totalBits fs) (length fs)
   -- no second phrase begins there
   pub one-phrase : (fs gs : List Frame) → PhraseAt pitchBits image a fs → PhraseAt pitchBits image a gs → fs ≡ gs
   -- there are frames there, those of the phrase or of the longest list, and no others

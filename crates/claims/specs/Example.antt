@@ -8,9 +8,11 @@ use Rattle.rom.specs.Frames.{pitchBits}
 use Rattle.rom.specs.Phrases.{FramesThere}
 use Rattle.rom.specs.declared.frames.Frame.{Frame}
 use Rattle.rom.specs.declared.frames.Frame.the-variants.{Silence, Stop, Repeat}
-use Rattle.chip.specs.declared.step.Report.{Report}
-use Rattle.chip.specs.declared.step.Report.the-variants.{Nothing, Frame as FrameReport, Stop as StopReport, RanOut}
-use Rattle.claims.specs.Demand3.{Loads, SpeakByte, Call, step, run, read, write, Answer, speaking, answersOf, answersDue, WritesRefused}
+use Rattle.reports.specs.declared.Report.{Report}
+use Rattle.reports.specs.declared.Report.the-variants.{Nothing as NoReport, Frame as FrameReport, Stop as StopReport, RanOut}
+use Rattle.schedule.specs.Types.{tells}
+use Rattle.schedule.specs.Calls.{Call, step, run, read, write, Answer}
+use Rattle.claims.specs.Demand3.{Loads, SpeakByte, speaking, answersOf, answersDue, WritesRefused}
 
 -- a valid voice file: length 497, version 1; 15 energies and the first pitch 0, 63 pitches of 257, K values 0; one pulse, of 64
 unfoldable pub voice : List ℕ
@@ -44,7 +46,7 @@ pub record Example : Type 0 where
 
 -- refusal, byte, report, position
 abbrev answer : ℕ → ℕ → Report → ℕ → Answer
-answer refusal byte report position = record { refusal = refusal; byte = byte; report = report; position = position }
+answer refusal byte report position = record { refusal = refusal; byte = byte; told = tells report; position = position }
 
 -- a phrase: silence, repeat, stop. Step 401 is the stop's
 abbrev pub phrase : Example
@@ -53,20 +55,20 @@ phrase = record {
   frames = Silence ∷ Repeat 3 1 ∷ Stop ∷ [];
   calls = read ∷ write 0x50 ∷ step voice ∷ step [] ∷ run voice 199 ∷ step voice ∷ run voice 199 ∷ read ∷ step voice ∷ read
       ∷ run [] 7 ∷ write 0x10 ∷ run voice 300 ∷ step voice ∷ [];
-  answers = answer TAKEN 0xE0 Nothing 0
-      ∷ answer WAIT 0 Nothing 0
+  answers = answer TAKEN 0xE0 NoReport 0
+      ∷ answer WAIT 0 NoReport 0
       ∷ answer TAKEN 0 (FrameReport Silence) 4
-      ∷ answer VOICE-SIZE 0 Nothing 4
-      ∷ answer TAKEN 0 Nothing 4
+      ∷ answer VOICE-SIZE 0 NoReport 4
+      ∷ answer TAKEN 0 NoReport 4
       ∷ answer TAKEN 0 (FrameReport (Repeat 3 1)) 15
-      ∷ answer TAKEN 0 Nothing 15
-      ∷ answer TAKEN 0xE0 Nothing 15
+      ∷ answer TAKEN 0 NoReport 15
+      ∷ answer TAKEN 0xE0 NoReport 15
       ∷ answer TAKEN 0 StopReport 19
-      ∷ answer TAKEN 0x60 Nothing 19
-      ∷ answer VOICE-SIZE 0 Nothing 19
-      ∷ answer BEYOND 0 Nothing 19
-      ∷ answer TAKEN 0 Nothing 19
-      ∷ answer TAKEN 0 Nothing 19
+      ∷ answer TAKEN 0x60 NoReport 19
+      ∷ answer VOICE-SIZE 0 NoReport 19
+      ∷ answer BEYOND 0 NoReport 19
+      ∷ answer TAKEN 0 NoReport 19
+      ∷ answer TAKEN 0 NoReport 19
       ∷ [];
 }
 
@@ -76,12 +78,12 @@ noPhrase = record {
   image = 0x03 ∷ 0x83 ∷ [];
   frames = Silence ∷ Repeat 3 1 ∷ [];
   calls = run voice 400 ∷ read ∷ step voice ∷ read ∷ write 0x50 ∷ step voice ∷ [];
-  answers = answer TAKEN 0 Nothing 15
-      ∷ answer TAKEN 0xE0 Nothing 15
+  answers = answer TAKEN 0 NoReport 15
+      ∷ answer TAKEN 0xE0 NoReport 15
       ∷ answer TAKEN 0 RanOut 16
-      ∷ answer TAKEN 0x60 Nothing 16
-      ∷ answer BEYOND 0 Nothing 16
-      ∷ answer TAKEN 0 Nothing 16
+      ∷ answer TAKEN 0x60 NoReport 16
+      ∷ answer BEYOND 0 NoReport 16
+      ∷ answer TAKEN 0 NoReport 16
       ∷ [];
 }
 

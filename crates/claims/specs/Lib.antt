@@ -1,5 +1,5 @@
 pub mod Writes
 pub mod Cases
-pub mod Schedule
+pub mod Device
 pub mod Demand3
 pub mod Example

@@ -1,0 +1,155 @@
+-- The core: the chip is a device of demand 3's list, so that a chip that is ready takes Speak and then gives every list of calls
+-- the answers that are due.
+-- Assumes nothing.
+use mathlib.Core.Path.{_≡_, refl, sym, ap, ap₂, _∙_, subst}
+use mathlib.Core.Bool.{Bool, true, false}
+use mathlib.Core.List.{List, [], _∷_, map}
+use Prim.Native.Nat.{ℕ, zero, suc, _+_, _*_, _≤_}
+use native.Mathlib.Omega.{arith}
+use borrow.Author.Tests.{eq-eqb, ne-eqb, le-leb}
+use lib.Dec.{eqb}
+use lib.ListN.{length}
+use Rattle.base.specs.Refusals.{WAIT, BEYOND, firstFault}
+use Rattle.base.specs.Steps.{stateAfter}
+use Rattle.rom.specs.Bits.{imageValid}
+use Rattle.rom.specs.Frames.{pitchBits}
+use Rattle.rom.specs.Items.{There}
+use Rattle.rom.specs.declared.frames.Frame.{Frame}
+use Rattle.schedule.specs.Form.{plain, itemCode}
+use Rattle.schedule.specs.Types.{Told, Speech}
+use Rattle.schedule.specs.Speech.{talkingFrom, spoken}
+use Rattle.schedule.specs.Calls.{Speaks}
+use Rattle.schedule.proofs.Plain.{plain-keeps, plain-there}
+use Rattle.schedule.proofs.Answering.{answers-due}
+use Rattle.control.specs.Validity.{speaks}
+use Rattle.control.specs.Commands.{commandOf, waits, beyond}
+use Rattle.control.specs.declared.state.Mode.{Mode}
+use Rattle.control.specs.declared.commands.Command.the-variants.{Speak}
+use Rattle.bus.specs.Commands.{obeyed}
+use Rattle.chip.specs.Validity.{valid}
+use Rattle.chip.specs.Write.{writeFault, afterByte, writeOf}
+use Rattle.chip.specs.Read.{acknowledged}
+use Rattle.chip.specs.Step.{stepTaken, notStepped, stepOf}
+use Rattle.chip.specs.Run.{sampleStep}
+use Rattle.chip.specs.declared.state.Chip.{Chip}
+use Rattle.chip.specs.declared.write.Written.{Written}
+use Rattle.chip.specs.declared.step.Stepped.{Stepped}
+use Rattle.control.proofs.Ranges.{mode-ranges}
+use Rattle.chip.proofs.Ranges.{chip-ranges}
+use Rattle.chip.proofs.Writing.{write-refused}
+use Rattle.chip.proofs.KeptValid.{write-keeps-valid, read-keeps-valid}
+use Rattle.chip.proofs.StepsValid.{step-keeps-valid}
+use Rattle.claims.specs.Device.{chipForm, stepGives, runGives, writeGives, chipOn, faultOf, refusedAs, chipTable}
+use Rattle.claims.specs.Demand3.{AnswersDue, Core}
+use Rattle.claims.proofs.Commanded.{obeys}
+use Rattle.claims.proofs.Moves.{speechOf, Calm, moves}
+use Rattle.claims.proofs.Answers.{step-by-voice, run-by-voice, write-fault, read-taken, read-status, read-chip, still-none, status-is}
+
+-- a valid chip that speaks from ROM or is idle
+pub record Still (c : Chip) : Type 0 where
+  pub is-valid : valid c ≡ true
+  pub calm : Calm (c .control)
+
+abbrev pub chipSpeech : Chip → Speech
+chipSpeech c = speechOf (c .control)
+
+module _ (image : List ℕ) (i : imageValid image ≡ true) where
+  -- ---- a step
+
+  -- by its voice file
+  module _ (voice : List ℕ) (c : Chip) (s : Still c) where
+    taken : faultOf voice ≡ 0 → stepOf image voice c ≡ stepTaken image voice c
+    taken g = step-by-voice image voice c i (s .is-valid) (eq-eqb _ 0 g)
+
+    refused : (faultOf voice ≡ 0 → ⊥) → stepOf image voice c ≡ notStepped c (faultOf voice)
+    refused g = step-by-voice image voice c i (s .is-valid) (ne-eqb _ 0 g)
+
+    -- taken, it is a step of the speech
+    taken-calm : Calm (stepTaken image voice c .chip .control)
+    unfolding stepTaken
+    taken-calm = moves image (c .control) (s .calm) .calm
+
+    taken-speech : chipSpeech (stepTaken image voice c .chip) ≡ spoken chipForm image (chipSpeech c) .speech
+    unfolding stepTaken
+    taken-speech = moves image (c .control) (s .calm) .speech
+
+    taken-answer : stepGives (stepTaken image voice c) .1 ≡ (0, spoken chipForm image (chipSpeech c) .told)
+    unfolding stepTaken
+    taken-answer = ap (λ (t : Told). (0, t)) (moves image (c .control) (s .calm) .told)
+
+    still : Still (stepOf image voice c .chip)
+    still = record { is-valid = step-keeps-valid image voice c (s .is-valid); calm = go (eqb (faultOf voice) 0) refl }
+      where
+        go : (t : Bool) → eqb (faultOf voice) 0 ≡ t → Calm (stepOf image voice c .chip .control)
+        go true e = subst (λ (r : Stepped). Calm (r .chip .control)) (sym (step-by-voice image voice c i (s .is-valid) e)) taken-calm
+        go false e = subst (λ (r : Stepped). Calm (r .chip .control)) (sym (step-by-voice image voice c i (s .is-valid) e)) (s .calm)
+
+  -- the chip after steps, whatever else they give
+  same-steps : (voice : List ℕ) (n : ℕ) (c : Chip) → stateAfter (sampleStep image voice) n c ≡ stateAfter (chipOn image .stepped voice) n c
+  same-steps voice zero c = refl
+  same-steps voice (suc n) c = same-steps voice n (stepOf image voice c .chip)
+
+  -- ---- a read and a written byte
+
+  read-calm : (c : Chip) → Still c → Calm (acknowledged (c .control))
+  read-calm c s = record { mode = s .calm .mode; level = s .calm .level; pending = still-none (c .control .port) (s .calm .pending) }
+
+  number : (c : Chip) (b : ℕ) → Still c → writeFault image c b ≡ refusedAs image (chipSpeech c .talking) (chipSpeech c .position) b
+  number c b s =
+      write-fault image c b i (s .is-valid)
+      ∙ ap₂ (λ (m : Mode) (l : ℕ). firstFault ((waits m l (commandOf b), WAIT) ∷ (beyond m image (c .control .address .position) (commandOf b), BEYOND) ∷ []))
+      (s .calm .mode) (s .calm .level)
+
+  -- ---- all of it
+
+  pub chip-speaks : Speaks chipForm (chipTable image) image (chipOn image) chipSpeech Still
+  chip-speaks = record {
+    position = λ c s. refl;
+    step-still = still;
+    step-speech = λ voice c s g. ap (λ (r : Stepped). chipSpeech (r .chip)) (taken voice c s g) ∙ taken-speech voice c s;
+    step-answer = λ voice c s g. ap (λ (r : Stepped). stepGives r .1) (taken voice c s g) ∙ taken-answer voice c s;
+    step-refused = λ voice c s g. ap stepGives (refused voice c s g);
+    run-taken = λ voice n c s g.
+        ap runGives (run-by-voice image voice c i (s .is-valid) n (eq-eqb _ 0 g)) ∙ ap (λ (d : Chip). (d, 0)) (same-steps voice n c);
+    run-refused = λ voice n c s g. ap runGives (run-by-voice image voice c i (s .is-valid) n (ne-eqb _ 0 g));
+    read-still = λ c s. record {
+      is-valid = read-keeps-valid c (s .is-valid);
+      calm = subst (λ (d : Chip). Calm (d .control)) (sym (read-chip c (s .is-valid))) (read-calm c s);
+    };
+    read-speech = λ c s. ap chipSpeech (read-chip c (s .is-valid));
+    read-byte = λ c s.
+        ap₂ (λ (x y : ℕ). (x, y)) (read-taken c (s .is-valid))
+        (read-status c (s .is-valid) (s .calm .pending) ∙ status-is (speaks (c .control .mode)) (c .control) (s .calm .mode) (s .calm .level));
+    write-refused = λ b c s g. ap writeGives (sym (write-refused image c b (sym (number c b s)) g));
+  }
+
+pub core : Core
+core image a i inside c r s = (ap (λ (w : Written). w .refusal) taken, λ fs there. answers fs (plain-there pitchBits image a fs there))
+  where
+    taken : writeOf image c (s .byte) ≡ record { chip = afterByte c (obeyed image (c .control) (s .byte) Speak); refusal = 0 }
+    taken =
+        obeys image c (s .byte) Speak i (r .is-valid) (r .is-idle) (s .speak)
+        (rw (le-leb (c .control .address .position + 1) (8 * length image) (omega (arith, r .at-byte))))
+
+    empty : c .control .fifo .level ≡ 0
+    empty = let f = mode-ranges (c .control .mode) (c .control .fifo) (chip-ranges c (r .is-valid) .control .fifo) .at-most in let m : c .control .fifo .level ≤ 0 = rw (r .is-idle) at f in omega arith
+
+    -- the chip that has taken Speak
+    speaking : Chip
+    speaking = writeOf image c (s .byte) .chip
+
+    still : Still speaking
+    still = record {
+      is-valid = write-keeps-valid image c (s .byte) (r .is-valid);
+      calm = subst (λ (w : Written). Calm (w .chip .control)) (sym taken) (record { mode = refl; level = empty; pending = refl });
+    }
+
+    begins : chipSpeech speaking ≡ talkingFrom (8 * a) (c .control .clock)
+    begins =
+        ap (λ (w : Written). chipSpeech (w .chip)) taken
+        ∙ ap (λ (p : ℕ). talkingFrom p (c .control .clock)) (r .at-byte)
+
+    answers : (fs : List Frame) → There (itemCode chipForm) image (8 * a) (map plain fs) → AnswersDue image a fs speaking
+    answers fs there =
+        answers-due chipForm (plain-keeps pitchBits) (chipTable image) image (chipOn image) chipSpeech Still (chip-speaks image i) (8 * a) (map plain fs) there speaking
+        (c .control .clock) still begins

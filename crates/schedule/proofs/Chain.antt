@@ -1,0 +1,84 @@
+-- The items that stand at a bit, read one after another.
+-- Assumes nothing.
+use mathlib.Core.Path.{_≡_, refl, subst}
+use mathlib.Core.Bool.{Bool, true, false, cond}
+use mathlib.Core.List.{List, [], _∷_}
+use Prim.Native.Nat.{ℕ, zero, suc, _+_, _*_, _≤_}
+use native.Mathlib.Omega.{arith}
+use lib.ListN.{length}
+use Rattle.rom.specs.Frames.{isStop}
+use Rattle.rom.specs.Items.{Code, ItemAnswer, whole, cut, bitsAll, Encoded, itemsFrom, itemsOf, There, phrase, none}
+use Rattle.rom.proofs.Encoding.{begins-room}
+use Rattle.rom.proofs.Prefixed.{prefixed-law, prefixed-read}
+use Rattle.schedule.specs.Form.{Form, Item, itemCode, readItem}
+use Rattle.schedule.proofs.Due.{width}
+
+-- items stand within the image
+pub there-inside : (C : Code) (image : List ℕ) (start : ℕ) (fs : List (C .Item)) → There C image start fs → start ≤ 8 * length image
+there-inside C image start fs h = go h
+  where
+    inside : Encoded C image start fs → start ≤ 8 * length image
+    inside e = omega (arith, begins-room image start (bitsAll C fs) (e .begins))
+
+    go : There C image start fs → start ≤ 8 * length image
+    go (phrase p) = inside (p .encoded)
+    go (none n l) = inside (l .encoded)
+
+-- the items `is` are read from bit p on, up to a stop or to where the bits end
+pub data Chain (F : Form) (image : List ℕ) : ℕ → List Item → Type 0 where
+  stop : {p : ℕ} {i : Item} → readItem F image p ≡ whole i (p + width F i) → isStop (i .1) ≡ true → Chain F image p (i ∷ [])
+  more : {p : ℕ} {i : Item} {is : List Item} → readItem F image p ≡ whole i (p + width F i) → isStop (i .1) ≡ false
+      → Chain F image (p + width F i) is → Chain F image p (i ∷ is)
+  end : {p : ℕ} → readItem F image p ≡ cut → p ≤ 8 * length image → Chain F image p []
+
+module _ (F : Form) (image : List ℕ) where
+  abbrev read : ℕ → ItemAnswer Item
+  read = readItem F image
+
+  -- a whole item ends inside the image, at least a bit on
+  record After (p : ℕ) (i : Item) (next : ℕ) : Type 0 where
+    is : next ≡ p + width F i
+    inside : next ≤ 8 * length image
+    further : p + 1 ≤ next
+
+  after : (p : ℕ) {i : Item} {next : ℕ} → read p ≡ whole i next → After p i next
+  after p {i} {next} e =
+      let l = prefixed-law (F .prefix) (F .pitch) image in
+      let r = l .law p i next .0 e in
+      record {
+        is = r .2;
+        inside = omega (arith, r .2, begins-room image p (itemCode F .bits i) (r .1));
+        further = omega (arith, r .2, l .some i);
+      }
+
+  -- with n reads, one for each bit left, no item is missed
+  abbrev Chained : ℕ → Type 0
+  Chained n = (p : ℕ) → 8 * length image ≤ p + n → p ≤ 8 * length image → Chain F image p (itemsFrom (itemCode F) read p n)
+
+  chain : (n : ℕ) → Chained n
+  unfolding itemsFrom
+  chain zero p h l = go (read p) refl
+    where
+      go : (r : ItemAnswer Item) → read p ≡ r → Chain F image p []
+      go (whole i next) e = let a = after p e in absurd (omega (arith, a .inside, a .further))
+      go cut e = end e l
+  chain (suc n) p h l = go (chain n) (read p) refl
+    where
+      by-stop : Chained n → {i : Item} {next : ℕ} → read p ≡ whole i next → (b : Bool) → isStop (i .1) ≡ b
+          → Chain F image p (i ∷ cond b [] (itemsFrom (itemCode F) read next n))
+      by-stop ih {i} {next} e true t = let a = after p e in stop (subst (λ (q : ℕ). read p ≡ whole i q) (a .is) e) t
+      by-stop ih {i} {next} e false t =
+          let a = after p e in
+          more (subst (λ (q : ℕ). read p ≡ whole i q) (a .is) e) t
+          (subst (λ (q : ℕ). Chain F image q (itemsFrom (itemCode F) read next n)) (a .is) (ih next (omega (arith, a .further)) (a .inside)))
+
+      go : Chained n → (r : ItemAnswer Item) → read p ≡ r → Chain F image p (itemsOf (itemCode F) r (λ next. itemsFrom (itemCode F) read next n))
+      go ih (whole i next) e = by-stop ih e (isStop (i .1)) refl
+      go ih cut e = end e l
+
+  -- the items there are read one after another
+  pub chain-there : (start : ℕ) (is : List Item) → There (itemCode F) image start is → Chain F image start is
+  chain-there start is h =
+      let l = there-inside (itemCode F) image start is h in
+      subst (Chain F image start) (prefixed-read (F .prefix) (F .pitch) image start is l .0 h)
+      (chain (8 * length image) start (omega arith) l)

@@ -1,0 +1,129 @@
+-- What is due, one item at a time: before the first of the items, from its step on, and where there is none.
+-- Assumes nothing.
+use mathlib.Core.Path.{_≡_, refl}
+use mathlib.Core.Bool.{Bool, true, false, cond, _&&_}
+use mathlib.Core.List.{List, [], _∷_}
+use Prim.Native.Nat.{ℕ, _+_, _≤_, _<_}
+use native.Mathlib.Nat.{add-assoc, add-zero}
+use native.Mathlib.Omega.{arith}
+use borrow.Author.Tests.{eq-eqb, ne-eqb, le-leb, lt-leb, lt-ltb, le-ltb}
+use lib.ListN.{length, length-append}
+use Rattle.rom.specs.Frames.{isStop}
+use Rattle.rom.specs.Items.{bitsAll}
+use Rattle.schedule.specs.Form.{Form, Item, itemCode, lasting}
+use Rattle.schedule.specs.Types.{NoReport, RanOut, tells}
+use Rattle.schedule.specs.Schedule.{dueReport, dueFrom, endFrom, toldFrom, talksFrom, positionFrom}
+
+-- the bits of an item
+abbrev pub width : Form → Item → ℕ
+width F i = length (itemCode F .bits i)
+
+not-below : (b : Bool) {m x y : ℕ} → m ≤ x → m ≤ y → m ≤ cond b x y
+not-below true h k = h
+not-below false h k = k
+
+and-false : (b : Bool) → (b && false) ≡ false
+and-false true = refl
+and-false false = refl
+
+module _ (F : Form) where
+  -- ---- the step of the end: a stop's, or that of the items after an item that is none
+
+  module _ (at : ℕ) (i : Item) (is : List Item) where
+    pub end-stop : isStop (i .1) ≡ true → endFrom F at (i ∷ is) ≡ at
+    unfolding endFrom
+    end-stop k = rw k
+
+    pub end-more : isStop (i .1) ≡ false → endFrom F at (i ∷ is) ≡ endFrom F (at + lasting F i) is
+    unfolding endFrom
+    end-more k = rw k
+
+  -- it is not before the first item
+  pub end-after : (at : ℕ) (is : List Item) → at ≤ endFrom F at is
+  unfolding endFrom
+  end-after at [] = omega arith
+  end-after at (i ∷ is) = not-below (isStop (i .1)) (omega arith) (omega (arith, end-after (at + lasting F i) is))
+
+  -- ---- before the first item's step
+
+  pub told-ahead : (at n : ℕ) (is : List Item) → n < at → toldFrom F at is n ≡ tells NoReport
+  unfolding toldFrom
+  told-ahead at n [] h = rw (ne-eqb n at (omega arith))
+  told-ahead at n (i ∷ is) h = rw (ne-eqb n at (omega arith)) (go (isStop (i .1)) (told-ahead (at + lasting F i) n is (omega arith)))
+    where
+      go : (b : Bool) → toldFrom F (at + lasting F i) is n ≡ tells NoReport → cond b (tells NoReport) (toldFrom F (at + lasting F i) is n) ≡ tells NoReport
+      go true e = refl
+      go false e = e
+
+  due-ahead : (at n : ℕ) (is : List Item) → n < at → dueFrom F at is n ≡ []
+  unfolding dueFrom
+  due-ahead at n [] h = refl
+  due-ahead at n (i ∷ is) h = rw (lt-leb at n h)
+
+  module _ (at n : ℕ) (is : List Item) (h : n < at) where
+    pub talks-ahead : talksFrom F at is n ≡ true
+    talks-ahead = lt-ltb n (endFrom F at is) (omega (arith, end-after at is))
+
+    pub position-ahead : (p e : ℕ) → positionFrom F at p e is n ≡ p
+    position-ahead p e = rw (lt-leb (endFrom F at is) n (omega (arith, end-after at is)), and-false, due-ahead at n is h, add-zero)
+
+  -- ---- from its step on
+
+  module _ (at n : ℕ) (i : Item) (is : List Item) where
+    pub told-due : n ≡ at → toldFrom F at (i ∷ is) n ≡ tells (dueReport (i .1))
+    unfolding toldFrom
+    told-due e = rw (eq-eqb n at e)
+
+    pub due-first : at ≤ n → dueFrom F at (i ∷ is) n ≡ i ∷ dueFrom F (at + lasting F i) is n
+    unfolding dueFrom
+    due-first h = rw (le-leb at n h)
+
+    -- where it is no stop
+    module _ (k : isStop (i .1) ≡ false) where
+      pub told-more : at < n → toldFrom F at (i ∷ is) n ≡ toldFrom F (at + lasting F i) is n
+      unfolding toldFrom
+      told-more h = rw (ne-eqb n at (omega arith), k)
+
+      pub talks-more : talksFrom F at (i ∷ is) n ≡ talksFrom F (at + lasting F i) is n
+      talks-more = rw (end-more at i is k)
+
+      pub position-more : (p e : ℕ) → at ≤ n → positionFrom F at p e (i ∷ is) n ≡ positionFrom F (at + lasting F i) (p + width F i) e is n
+      position-more p e h =
+          rw (end-more at i is k, due-first h, k, length-append (itemCode F .bits i) (bitsAll (itemCode F) (dueFrom F (at + lasting F i) is n)), add-assoc)
+
+  -- where it is the stop
+  module _ (at n : ℕ) (i : Item) (k : isStop (i .1) ≡ true) where
+    pub told-stop : at < n → toldFrom F at (i ∷ []) n ≡ tells NoReport
+    unfolding toldFrom
+    told-stop h = rw (ne-eqb n at (omega arith), k)
+
+    module _ (h : at ≤ n) where
+      pub due-stop : dueFrom F at (i ∷ []) n ≡ i ∷ []
+      unfolding dueFrom
+      due-stop = due-first at n i [] h
+
+      pub talks-stop : talksFrom F at (i ∷ []) n ≡ false
+      talks-stop = rw (end-stop at i [] k) (le-ltb n at h)
+
+      pub position-stop : (p e : ℕ) → positionFrom F at p e (i ∷ []) n ≡ p + width F i
+      position-stop p e = rw (k, due-stop, length-append (itemCode F .bits i) [], add-zero)
+
+  -- ---- where there is none
+
+  module _ (at n : ℕ) where
+    pub told-out : n ≡ at → toldFrom F at [] n ≡ tells RanOut
+    unfolding toldFrom
+    told-out e = rw (eq-eqb n at e)
+
+    pub told-after-out : at < n → toldFrom F at [] n ≡ tells NoReport
+    unfolding toldFrom
+    told-after-out h = rw (ne-eqb n at (omega arith))
+
+    module _ (h : at ≤ n) where
+      pub talks-out : talksFrom F at [] n ≡ false
+      unfolding endFrom
+      talks-out = le-ltb n at h
+
+      pub position-out : (p e : ℕ) → positionFrom F at p e [] n ≡ e
+      unfolding endFrom
+      position-out p e = rw (le-leb at n h)

@@ -1,0 +1,9 @@
+pub mod Due
+pub mod Numbers
+pub mod Chain
+pub mod Plain
+pub mod Counting
+pub mod Speaking
+pub mod Progress
+pub mod Keeping
+pub mod Answering

@@ -1,0 +1,5 @@
+pub mod Form
+pub mod Types
+pub mod Schedule
+pub mod Speech
+pub mod Calls

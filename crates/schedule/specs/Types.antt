@@ -1,0 +1,25 @@
+-- What a sample step gives, and speech from ROM.
+use mathlib.Core.Bool.{Bool}
+use Prim.Native.Nat.{ℕ}
+pub use Rattle.clock.specs.declared.Clock.{Clock}
+pub use Rattle.reports.specs.declared.Report.{Report}
+pub use Rattle.reports.specs.declared.Report.the-variants.{Nothing as NoReport, Frame as FrameReport, Stop as StopReport, RanOut}
+
+-- what a step gives: its report. What a device gives of a frame besides, as its rate, joins it here
+pub record Told : Type 0 where
+  pub report : Report
+
+-- a report with nothing besides
+abbrev pub tells : Report → Told
+tells r = record { report = r }
+
+-- all of a device that speaks from ROM on which the schedule depends
+pub record Speech : Type 0 where
+  pub talking : Bool
+  pub position : ℕ
+  pub clock : Clock
+
+-- the speech after a step, and what the step gives
+pub record Spoken : Type 0 where
+  pub speech : Speech
+  pub told : Told
