@@ -2,25 +2,25 @@
 ghost use mathlib.Core.Path.{_≡_};
 ghost use Prim.Native.Nat.{_≤_};
 ghost use lib.ListN.{length};
-ghost use Rattle.script.specs.Script.{limit};
+ghost use Rattle.trace_script.specs.Script.{limit};
 
-mod play;
+mod records;
 
-use answers::lines::bad_line;
 use chip::state::Chip;
-use input::read_all;
 use libc::STDOUT_FILENO;
-use play::Parts;
-use play::play;
-use script::LIMIT;
-use script::Record;
-use script::record_at;
+use records::Parts;
+use records::play;
+use stdin::read_all;
+use trace_lines::lines::bad_line;
+use trace_script::LIMIT;
+use trace_script::Record;
+use trace_script::record_at;
 
 // The buffer for answers has 65,536 bytes and is written out where more than this is used. The answers to one record take less
 // than 59,000 bytes, so that none is cut: at most 8,192 samples of 7 bytes, 63 numbers of 21 bytes, and some 20 bytes more.
 const WAITING: usize = 6000;
 
-// Writes the buffer out where it is time. The answer is how much of it is still used: all, where writing failed.
+// Writes the buffer out where it is time. It returns how much of it is still used: all, where writing failed.
 fn relieve(out: &[u8], used: usize) -> usize
     requires { ⌜ used ≤ length (now out) ⌝ }
     ensures { λ r. ⌜ r ≤ length (now (out .entry)) ⌝ }
@@ -43,7 +43,7 @@ fn give_up(out: &mut [u8], used: usize) -> bool
     io::write_all(STDOUT_FILENO, &out[..end])
 }
 
-// Plays a script within the limit and answers whether all answers are written.
+// Plays a script within the limit and returns whether all lines are written.
 fn play_all(script: &[u8], out: &mut [u8]) -> bool
     requires { ⌜ length (now script) ≤ limit ⌝ }
 {
@@ -81,7 +81,7 @@ fn play_script(script: &[u8], out: &mut [u8]) -> bool {
     }
 }
 
-// Room for one byte more than a script may have, so that a longer one is told from one that fits.
+// Room for one byte more than a script may have, so that a longer one is seen.
 fn room() -> [u8; 1048577]
     ensures { λ r. ⌜ 1048577 ≡ length r ⌝ }
 {

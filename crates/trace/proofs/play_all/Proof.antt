@@ -6,8 +6,8 @@ use native.Mathlib.Omega.{arith}
 use lib.ListN.{length}
 use lib.Seq.{length-take-le}
 use Rattle.base.specs.Bytes.{byteAt}
-use Rattle.script.specs.Script.{wordAt, bodyOf}
-use Rattle.script.proofs.Records.{whole-next}
+use Rattle.trace_script.specs.Script.{le32, bodyOf}
+use Rattle.trace_script.proofs.Records.{whole-next}
 use Rattle.trace.proofs.play_all.Statement.{statement}
 use Rattle.trace.proofs.play_all.Tie as tie
 
@@ -17,7 +17,7 @@ Inv-loop script out₀ parts₀ chip₀ at₀ used₀ out parts chip at used = (
 abbrev μ-loop : tie.MeasureT-loop
 μ-loop script out₀ parts₀ chip₀ at₀ used₀ out parts chip at used = length script - at
 
--- the next record begins behind this one's letter, and within the script or at its end
+-- the next record begins after this one's letter, and within the script or at its end
 ends : (c : tie.After-chip Inv-loop μ-loop)
     → let r = c .before .before .before .before .before .before .before .before .before .before in
     let l = r .before .before .before .before .loop in
@@ -28,7 +28,7 @@ ends c =
     let l = r .before .before .before .before .loop in
     let s = r .before .before .before .before .before .before .before .before .args .script .now in
     let h : l .at + 1 ≤ length s = omega (arith, r .before .before .before .loop-test .taken) in
-    whole-next (length s) (l .at + 1) _ (bodyOf (byteAt s (l .at)) (wordAt s (l .at + 1))) h
+    whole-next (length s) (l .at + 1) _ (bodyOf (byteAt s (l .at)) (le32 s (l .at + 1))) h
     (sym (r .before .before .record-at .ensures) ∙ r .«record» .given .1)
 
 pub play-all-spec : {M : Type 1} → statement M

@@ -1,4 +1,0 @@
-pub mod Signed
-pub mod Filling
-pub mod Places
-pub mod Theorems

@@ -1,7 +1,0 @@
--- `fields::from_list::fifo_of` meets its contract. Assumes nothing.
-use borrow.Author.Needs.{needs}
-use Rattle.fields.proofs.from_list.fifo_of.Statement.{statement}
-use Rattle.fields.proofs.from_list.fifo_of.Tie as tie
-
-pub fifo-of-spec : {M : Type 1} → statement M
-fifo-of-spec = tie.close (tie.spec (λ c κs. search needs) (λ c κs. search needs) (λ c κs. search needs) (λ c. rw (c .before .before .bytes-of .ensures, c .before .byte-at .ensures, c .byte-at2 .ensures)))

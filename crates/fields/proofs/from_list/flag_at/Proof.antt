@@ -1,7 +1,0 @@
--- `fields::from_list::flag_at` meets its contract. Assumes nothing.
-use borrow.Author.Needs.{needs}
-use Rattle.fields.proofs.from_list.flag_at.Statement.{statement}
-use Rattle.fields.proofs.from_list.flag_at.Tie as tie
-
-pub flag-at-spec : {M : Type 1} → statement M
-flag-at-spec = tie.close (tie.spec (λ c κs. search needs) (λ c. rw (c .natural-at .ensures .0)))

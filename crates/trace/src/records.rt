@@ -1,0 +1,209 @@
+// What each record does, and its answers.
+ghost use Prim.Native.Nat.{_≤_, _<_};
+ghost use lib.ListN.{length};
+ghost use Rattle.trace_script.specs.Script.{limit};
+use base::bytes::byte_at;
+use base::refusal::TAKEN;
+use chip::state::Chip;
+use trace_lines::lines::UNTOUCHED;
+use trace_lines::lines::chip_line;
+use trace_lines::lines::read_line;
+use trace_lines::lines::refusal_line;
+use trace_lines::lines::run_line;
+use trace_lines::lines::step_line;
+use trace_lines::lines::told_line;
+use trace_script::STATE_LENGTH;
+use trace_script::le_i64;
+use trace_script::le32;
+use trace_script::part;
+use trace_script::run_length;
+use trace_state::from_list::state_of;
+use trace_state::numbers::Numbers;
+use trace_state::to_list::state_numbers;
+
+// The image and the voice file, as parts of the script: from a byte on up to another.
+pub struct Parts {
+    pub image: usize,
+    pub image_end: usize,
+    pub voice: usize,
+    pub voice_end: usize,
+}
+
+impl Parts {
+    // `I` and `V`: what follows the u32 of the record that begins with byte `at` is now the image, or the voice file.
+    pub fn after(self, script: &[u8], at: usize) -> Parts
+        requires { ⌜ at < limit ⌝ }
+    {
+        let from = at + 5;
+        let end = from + le32(script, at + 1);
+        match byte_at(script, at) {
+            b'I' => Parts {
+                image: from,
+                image_end: end,
+                voice: self.voice,
+                voice_end: self.voice_end,
+            },
+            b'V' => Parts {
+                image: self.image,
+                image_end: self.image_end,
+                voice: from,
+                voice_end: end,
+            },
+            _ => self,
+        }
+    }
+}
+
+// What a record leaves: the chip, and how much of the buffer is used.
+pub struct Played {
+    pub chip: Chip,
+    pub used: usize,
+}
+
+// A call's answer ends with the line of the chip that it hands back.
+fn hand_back(chip: Chip, out: &mut [u8], used: usize) -> Played
+    ensures { λ r. ⌜ r .used ≤ length (now (out .entry)) ⌝ }
+{
+    let list = state_numbers(chip);
+    Played {
+        chip,
+        used: chip_line(out, used, &list),
+    }
+}
+
+// `P`: power-up.
+fn power_up(out: &mut [u8], used: usize) -> Played
+    ensures { λ r. ⌜ r .used ≤ length (now (out .entry)) ⌝ }
+{
+    let p = refusal_line(out, used, b'P', TAKEN);
+    hand_back(Chip::power_up(), out, p)
+}
+
+// The numbers of a state.
+fn state_at(script: &[u8], at: usize) -> Numbers
+    requires { ⌜ at ≤ limit ⌝ }
+{
+    let mut numbers = [0i64; STATE_LENGTH];
+    for i in 0..STATE_LENGTH {
+        numbers[i] = le_i64(script, at + 8 * i);
+    }
+    numbers
+}
+
+// `S`: the chip is this state.
+fn set(script: &[u8], at: usize, out: &mut [u8], used: usize) -> Played
+    requires { ⌜ at ≤ limit ⌝ }
+    ensures { λ r. ⌜ r .used ≤ length (now (out .entry)) ⌝ }
+{
+    hand_back(state_of(state_at(script, at)), out, used)
+}
+
+// `W`: a byte written.
+fn write(script: &[u8], at: usize, parts: Parts, chip: Chip, out: &mut [u8], used: usize) -> Played
+    ensures { λ r. ⌜ r .used ≤ length (now (out .entry)) ⌝ }
+{
+    let image = part(script, parts.image, parts.image_end);
+    let written = chip.write(image, byte_at(script, at));
+    let p = refusal_line(out, used, b'W', written.refusal);
+    hand_back(written.chip, out, p)
+}
+
+// `R`: a byte read.
+fn read(chip: Chip, out: &mut [u8], used: usize) -> Played
+    ensures { λ r. ⌜ r .used ≤ length (now (out .entry)) ⌝ }
+{
+    let read = chip.read();
+    let p = read_line(out, used, read.refusal, read.byte);
+    hand_back(read.chip, out, p)
+}
+
+// `T`: a sample step.
+fn step(script: &[u8], parts: Parts, chip: Chip, out: &mut [u8], used: usize) -> Played
+    ensures { λ r. ⌜ r .used ≤ length (now (out .entry)) ⌝ }
+{
+    let image = part(script, parts.image, parts.image_end);
+    let voice = part(script, parts.voice, parts.voice_end);
+    let stepped = chip.step(image, voice);
+    let told = stepped.report;
+    let p = step_line(
+        out,
+        used,
+        stepped.refusal,
+        stepped.sample,
+        told.number(),
+        told.frame(),
+    );
+    hand_back(stepped.chip, out, p)
+}
+
+// A run into a buffer.
+fn run_into(
+    script: &[u8],
+    parts: Parts,
+    chip: Chip,
+    values: &mut [i16],
+    out: &mut [u8],
+    used: usize,
+) -> Played
+    ensures { λ r. ⌜ r .used ≤ length (now (out .entry)) ⌝ }
+{
+    let image = part(script, parts.image, parts.image_end);
+    let voice = part(script, parts.voice, parts.voice_end);
+    let ran = chip.run(image, voice, values);
+    let p = run_line(out, used, ran.refusal, values);
+    hand_back(ran.chip, out, p)
+}
+
+// `U`: a run.
+fn run(script: &[u8], at: usize, parts: Parts, chip: Chip, out: &mut [u8], used: usize) -> Played
+    requires { ⌜ at ≤ limit ⌝ }
+    ensures { λ r. ⌜ r .used ≤ length (now (out .entry)) ⌝ }
+{
+    let n = run_length(script, at);
+    let mut values = [UNTOUCHED; 8192];
+    run_into(script, parts, chip, &mut values[..n], out, used)
+}
+
+// The records that leave the chip as it is.
+fn tell(script: &[u8], at: usize, parts: Parts, out: &mut [u8], used: usize) -> usize
+    requires { ⌜ at < limit ⌝ }
+    ensures { λ r. ⌜ r ≤ length (now (out .entry)) ⌝ }
+{
+    let image = part(script, parts.image, parts.image_end);
+    let voice = part(script, parts.voice, parts.voice_end);
+    told_line(
+        out,
+        used,
+        byte_at(script, at),
+        le32(script, at + 1),
+        image,
+        voice,
+    )
+}
+
+// Plays the record that begins with byte `at`. A record has been seen to be whole before.
+pub fn play(
+    script: &[u8],
+    at: usize,
+    parts: Parts,
+    chip: Chip,
+    out: &mut [u8],
+    used: usize,
+) -> Played
+    requires { ⌜ at < limit ⌝ }
+    ensures { λ r. ⌜ r .used ≤ length (now (out .entry)) ⌝ }
+{
+    let body = at + 1;
+    match byte_at(script, at) {
+        b'P' => power_up(out, used),
+        b'S' => set(script, body, out, used),
+        b'W' => write(script, body, parts, chip, out, used),
+        b'R' => read(chip, out, used),
+        b'T' => step(script, parts, chip, out, used),
+        b'U' => run(script, body, parts, chip, out, used),
+        _ => Played {
+            chip,
+            used: tell(script, at, parts, out, used),
+        },
+    }
+}

@@ -1,0 +1,35 @@
+-- `trace_script::part` meets its contract. Assumes nothing.
+use borrow.Author.Needs.{needs}
+use borrow.Author.Tests.{le-leb, lt-leb}
+use lib.ListN.{length}
+use Rattle.trace_script.proofs.part.Statement.{statement}
+use Rattle.trace_script.proofs.part.Tie as tie
+
+returns : tie.Need-returns
+returns c = let a = c .before .before .args in rw (lt-leb (a .from) (a .end) (c .before .if1 .taken))
+
+returns-2 : tie.Need-returns-2
+returns-2 c =
+    let a = c .before .before .before .args in
+    rw (le-leb (a .from) (a .end) (c .before .before .if1 .left), lt-leb (a .end) (length (a .script .now)) (c .before .if2 .taken))
+
+returns-3 : tie.Need-returns-3
+returns-3 c =
+    let a = c .before .before .before .args in
+    rw (le-leb (a .from) (a .end) (c .before .before .if1 .left), le-leb (a .end) (length (a .script .now)) (c .before .if2 .left))
+
+pub part-spec : {M : Type 1} → statement M
+part-spec =
+    tie.close
+    (tie.spec
+    (λ c. search needs)
+    (λ c. search needs)
+    (λ c. search needs)
+    returns
+    (λ c. search needs)
+    (λ c. search needs)
+    (λ c. search needs)
+    returns-2
+    (λ c. search needs)
+    (λ c. search needs)
+    returns-3)

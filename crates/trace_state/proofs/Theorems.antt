@@ -1,0 +1,99 @@
+-- The laws of specs/Laws.antt.
+-- Assumes nothing.
+use mathlib.Core.Path.{_≡_, refl, sym, ap, _∙_}
+use mathlib.Core.List.{List, _++_, map}
+use Prim.Native.Nat.{ℕ, _+_}
+use native.Mathlib.Omega.{arith}
+use lib.IntN.{ℤ, pos}
+use lib.ListN.{take, drop, length-map}
+use lib.Seq.{take-at, take-all, drop-drop, getD-drop}
+use Rattle.trace_state.specs.Types.{Clock, Params, Chip}
+use Rattle.trace_state.specs.Numbers.{wide, natural, modeOf}
+use Rattle.trace_state.specs.Fields.{paramNumbers, stateNumbers, nth, addressOf, fifoOf, portOf, clockOf, paramsOf, soundOf, chipOf}
+use Rattle.trace_state.specs.Laws.{StateLength, ParamsInFormat, InFormat, ComesBack}
+use Rattle.trace_state.proofs.Signed.{natural-back, naturals-back, shorts-back, level-back, flag-back, mode-back}
+use Rattle.trace_state.proofs.Places.{bytes-at, clock-at, current-at, target-at, memory-at, state-length}
+
+-- number i, which is number j of what stands in a list from number m on
+number : (s xs : List ℤ) (m j i : ℕ) → i ≡ m + j → drop m s ≡ xs → nth s i ≡ nth xs j
+number s xs m j i h e = ap (nth s) h ∙ sym (getD-drop m s j (pos 0)) ∙ ap (λ l. nth l j) e
+
+params-back : (s ys : List ℤ) (m : ℕ) (v : Params) → drop m s ≡ paramNumbers v ++ ys → ParamsInFormat v → paramsOf s m ≡ v
+params-back s ys m v e f =
+    rw (
+      number s (paramNumbers v ++ ys) m 0 m (omega arith) e,
+      number s (paramNumbers v ++ ys) m 1 (m + 1) refl e,
+      sym (drop-drop 2 m s) ∙ ap (drop 2) e,
+      take-at (v .k) ys 10 (f .k .ten),
+      level-back (f .energy),
+      level-back (f .pitch),
+      shorts-back (v .k) (f .k .shorts),
+    )
+
+module _ (c : Chip) (f : InFormat c) where
+  abbrev s : List ℤ
+  s = stateNumbers c
+
+  abbrev k : Clock
+  k = c .control .clock
+
+  clock-back : clockOf s ≡ k
+  clock-back =
+      let e = clock-at c (f .sixteen) in
+      rw (
+        number s _ 24 0 24 refl e,
+        number s _ 24 1 25 refl e,
+        number s _ 24 2 26 refl e,
+        flag-back (k .sounding),
+        natural-back 255 (k .sample .0) (f .sample) (omega arith),
+        natural-back 255 (k .interval .0) (f .interval) (omega arith),
+      )
+
+  sound-back : soundOf s ≡ c .sound
+  sound-back =
+      let e = clock-at c (f .sixteen) in
+      let l = f .current .k .ten in
+      rw (
+        params-back s _ 29 (c .sound .current) (current-at c (f .sixteen)) (f .current),
+        params-back s _ 41 (c .sound .target) (target-at c (f .sixteen) l) (f .target),
+        memory-at c (f .sixteen) l (f .target .k .ten),
+        take-all 10 (c .sound .memory) (omega (arith, f .memory .ten)),
+        shorts-back (c .sound .memory) (f .memory .shorts),
+        number s _ 24 3 27 refl e,
+        number s _ 24 4 28 refl e,
+        natural-back 32767 (c .sound .noise) (f .noise) (omega arith),
+        natural-back 32767 (c .sound .pulse) (f .pulse) (omega arith),
+      )
+
+  bytes-back : map (natural 255) (take 16 (drop 8 s)) ≡ c .control .fifo .bytes
+  bytes-back =
+      ap (λ l. map (natural 255) (take 16 l)) (bytes-at c)
+      ∙ ap (map (natural 255)) (take-at (map wide (c .control .fifo .bytes)) _ 16 (length-map (c .control .fifo .bytes) wide ∙ f .sixteen))
+      ∙ naturals-back 255 (c .control .fifo .bytes) (f .bytes) (omega arith)
+
+  fifo-back : fifoOf s ≡ c .control .fifo
+  unfolding stateNumbers
+  fifo-back = rw (bytes-back, natural-back 255 (c .control .fifo .level) (f .level) (omega arith), natural-back 255 (c .control .fifo .«used_bits») (f .«used_bits») (omega arith))
+
+  address-back : addressOf s ≡ c .control .address
+  unfolding stateNumbers
+  address-back =
+      let p = c .control .address in
+      rw (natural-back 4294967295 (p .position) (omega (arith, f .position)) (omega arith), natural-back 255 (p .«next_nibble») (f .«next_nibble») (omega arith))
+
+  port-back : portOf s ≡ c .control .port
+  unfolding stateNumbers
+  port-back =
+      let p = c .control .port in
+      rw (flag-back (p .pending), natural-back 255 (p .«data») (f .«data») (omega arith), flag-back (p .interrupt))
+
+  first-back : modeOf (nth s 0) ≡ c .control .mode
+  unfolding stateNumbers
+  first-back = mode-back (c .control .mode)
+
+pub state-length-is : StateLength
+state-length-is c f = state-length c (f .sixteen) (f .current .k .ten) (f .target .k .ten) (f .memory .ten)
+
+pub comes-back : ComesBack
+unfolding chipOf
+comes-back c f = rw (first-back c f, address-back c f, fifo-back c f, port-back c f, clock-back c f, sound-back c f)

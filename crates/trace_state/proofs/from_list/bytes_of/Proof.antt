@@ -1,0 +1,53 @@
+-- `trace_state::from_list::bytes_of` meets its contract. Assumes nothing.
+use borrow.Author.Needs.{needs}
+use mathlib.Core.Path.{_≡_, sym, _∙_}
+use mathlib.Core.List.{map}
+use Prim.Native.Nat.{_-_, _≤_}
+use native.Mathlib.Omega.{arith}
+use lib.IntN.{pos}
+use lib.ListN.{length, take, drop}
+use Rattle.trace_script.specs.Script.{stateLength}
+use Rattle.trace_state.specs.Numbers.{natural}
+use Rattle.base.proofs.Filling.{Filled, fill-none, fill-more, fill-all, part-length, part-element}
+use Rattle.trace_state.proofs.from_list.bytes_of.Statement.{statement}
+use Rattle.trace_state.proofs.from_list.bytes_of.Tie as tie
+
+abbrev Inv-loop : tie.InvT-loop
+Inv-loop numbers bytes₀ i₀ bytes i = (i ≤ 16) × (length numbers ≡ stateLength) × Filled (map (natural 255) (take 16 (drop 8 numbers))) bytes i
+
+abbrev μ-loop : tie.MeasureT-loop
+μ-loop numbers bytes₀ i₀ bytes i = 16 - i
+
+loop-holds : tie.Need-loop-holds Inv-loop μ-loop
+loop-holds c =
+    let n : length (c .args .numbers) ≡ stateLength = search needs in
+    (omega arith, n, fill-none (sym (part-length (natural 255) 8 16 (c .args .numbers) (omega (arith, n)))))
+
+loop-again : tie.Need-loop-again Inv-loop μ-loop
+loop-again c =
+    let l = c .before .before .loop in
+    let s = c .before .before .before in
+    let n = part-length (natural 255) 8 16 (s .args .numbers) (omega (arith, l .inv .1)) in
+    let e = part-element (natural 255) 8 16 (s .args .numbers) (l .i) (pos 0) (omega arith) in
+    (omega arith, l .inv .1, fill-more (l .i) 0 _ (l .inv .2) (omega (arith, n)) (c .byte-at .ensures ∙ e))
+
+returns : tie.Need-returns Inv-loop μ-loop
+returns c =
+    let v = c .before .loop .inv in
+    let n = part-length (natural 255) 8 16 (c .before .before .args .numbers) (omega (arith, v .1)) in
+    fill-all (c .before .loop .i) (v .2) (omega (arith, n))
+
+pub bytes-of-spec : {M : Type 1} → statement M
+bytes-of-spec =
+    tie.close
+    (tie.spec
+    Inv-loop
+    μ-loop
+    loop-holds
+    (λ c. search needs)
+    (λ c κs. search needs)
+    (λ c. search needs)
+    (λ c. search needs)
+    (λ c. search needs)
+    loop-again
+    returns)
