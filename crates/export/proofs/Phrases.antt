@@ -1,4 +1,4 @@
--- What speaking a phrase answers, by whether its address, a byte that begins it or the run is refused.
+-- What speaking a phrase returns, by whether its address, a byte that begins it or the run is refused.
 -- Assumes nothing.
 use mathlib.Core.Path.{_≡_, refl, sym, ap, _∙_}
 use mathlib.Core.Bool.{Bool, true, false}
@@ -36,7 +36,7 @@ pub step-is : (image voice : List ℕ) (c : Chip) {r : Stepped} {x : ℤ} → r 
     → (r .chip, x) ≡ sampleStep image voice c
 step-is image voice c r x = rw x (ap (λ (r : Stepped). (r .chip, r .sample)) r)
 
--- a run of any length answers the number that a step would
+-- a run of any length returns the number that a step would
 pub run-number : (image voice : List ℕ) (c : Chip) (n : ℕ) → runOf image voice c n .refusal ≡ stepFault image voice c
 unfolding runOf
 run-number image voice c n = by-fault (eqb (stepFault image voice c) 0) refl

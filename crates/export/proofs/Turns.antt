@@ -1,4 +1,4 @@
--- External speech by turns: a turn more, the end, and what a refused Speak External answers.
+-- External speech by turns: a turn more, the end, and what a refused Speak External returns.
 -- Assumes nothing.
 use mathlib.Core.Path.{_≡_, refl, sym, ap, ap₂, _∙_}
 use mathlib.Core.Bool.{Bool, true, false, cond}
@@ -13,7 +13,7 @@ use lib.ListN.{length, take, drop, length-append, take-append-drop}
 use lib.Seq.{take-at, drop-drop, length-take-le}
 use Rattle.base.specs.Steps.{outputs}
 use Rattle.base.proofs.Steps.{outputs-length}
-use Rattle.voice.specs.Layout.{pitches}
+use Rattle.rom.specs.Frames.{pitchBits}
 use Rattle.voice.specs.Check.{voiceFault, version}
 use Rattle.chip.specs.Step.{stepFault}
 use Rattle.chip.specs.Run.{sampleStep, runOf, bufferOf}
@@ -49,7 +49,7 @@ module _ (image voice bytes : List ℕ) where
   unfolding turnOf turned
   turn-is s out g r new = rw (r, new, g) (refl, refl)
 
-  -- turns over the buffer's first i elements lead from s₀ to s: those left answer what all answer, and leave what all leave
+  -- turns over the buffer's first i elements lead from s₀ to s: those left return what all return, and leave what all leave
   pub record Turning (s₀ : Fed) (out₀ out : List ℤ) (s : Fed) (i : ℕ) : Type 0 where
     pub within : i ≤ length out₀
     pub size : length out ≡ length out₀
@@ -110,7 +110,7 @@ module _ (image voice bytes : List ℕ) where
     unfolding externalFault externalInto
     external-refused = begin-refused out number _ _
 
-    module _ {k : ℕ} (v : k ≡ voiceFault pitches version voice) (h : w .refusal ≡ 0) where
+    module _ {k : ℕ} (v : k ≡ voiceFault pitchBits version voice) (h : w .refusal ≡ 0) where
       pub voice-refused : (k ≡ 0 → ⊥) → (k ≡ externalFault image voice bytes (length out)) × (out ≡ externalInto image voice bytes out)
       unfolding externalFault externalInto
       voice-refused r = let v = begin-refused out v _ _ r in begin-taken out number _ _ h (v .0) (v .1)

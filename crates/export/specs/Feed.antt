@@ -4,7 +4,7 @@ use Prim.Native.Nat.{ℕ, zero, suc, _/_}
 use lib.IntN.{ℤ}
 use lib.ListN.{length, take, drop}
 use Rattle.base.specs.Refusals.{TAKEN, unlessFault}
-use Rattle.voice.specs.Layout.{pitches}
+use Rattle.rom.specs.Frames.{pitchBits}
 use Rattle.voice.specs.Check.{voiceFault, version}
 use Rattle.chip.specs.State.{powerUp}
 use Rattle.chip.specs.Write.{writeOf}
@@ -57,10 +57,10 @@ module _ (image voice bytes : List ℕ) where
   -- the number of the refused Speak External, of the voice file, or of the last run
   unfoldable pub externalFault : ℕ → ℕ
   externalFault n =
-      unlessFault (external .refusal) (λ r. r) (unlessFault (voiceFault pitches version voice) (λ r. r) (fedFault (turns n) started))
+      unlessFault (external .refusal) (λ r. r) (unlessFault (voiceFault pitchBits version voice) (λ r. r) (fedFault (turns n) started))
 
   -- what the turns leave in the buffer
   unfoldable pub externalInto : List ℤ → List ℤ
   externalInto out =
       unlessFault (external .refusal) (λ r. out)
-      (unlessFault (voiceFault pitches version voice) (λ r. out) (fedInto (turns (length out)) started out))
+      (unlessFault (voiceFault pitchBits version voice) (λ r. out) (fedInto (turns (length out)) started out))

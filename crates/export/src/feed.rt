@@ -51,8 +51,8 @@ fn feed(fed: Fed, image: &[u8], voice: &[u8], bytes: &[u8], out: &mut [i16]) -> 
     fed.refusal
 }
 
-// Power-up, Speak External, and turns of 100 samples: before each the FIFO takes what it has room for. The answer is the
-// number of the refused Speak External, of the voice file, or of the last run; elements behind the last whole turn are kept.
+// Power-up, Speak External, and turns of 100 samples: before each the FIFO takes what it has room for. It returns the
+// number of the refused Speak External, of the voice file, or of the last run; elements after the last whole turn are kept.
 #[no_mangle]
 pub extern "C" fn tms_speak_external(
     image: &[u8],

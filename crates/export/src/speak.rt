@@ -48,7 +48,7 @@ fn begin(image: &[u8], address: usize) -> Given
     give(chip, image, &bytes, 0)
 }
 
-// Power-up, the loads of an address, Speak, and a run into the buffer. The answer is the number of the address, or else of the
+// Power-up, the loads of an address, Speak, and a run into the buffer. It returns the number of the address, or else of the
 // first refused call; refused, the buffer is as it was.
 #[no_mangle]
 pub extern "C" fn tms_speak(image: &[u8], voice: &[u8], address: usize, out: &mut [i16]) -> u8
@@ -65,7 +65,7 @@ pub extern "C" fn tms_speak(image: &[u8], voice: &[u8], address: usize, out: &mu
     ran.refusal
 }
 
-// The number that a step would answer: a run into an empty buffer makes the same checks.
+// The number that a step would return: a run into an empty buffer makes the same checks.
 fn step_number(chip: Chip, image: &[u8], voice: &[u8]) -> u8
     ensures { λ r. ⌜ r ≡ stepFault (now (image .entry)) (now (voice .entry)) chip ⌝ }
 {

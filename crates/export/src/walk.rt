@@ -22,8 +22,11 @@ pub extern "C" fn tms_walk(
 {
     let walked = walk(image, address);
     *bits = walked.bits;
-    *frames = walked.frames.0;
-    *intervals = walked.intervals.0;
-    *samples = walked.samples.0;
+    let in_frames = walked.frames;
+    let in_intervals = walked.intervals;
+    let in_samples = walked.samples;
+    *frames = in_frames.count();
+    *intervals = in_intervals.count();
+    *samples = in_samples.count();
     walked.refusal
 }

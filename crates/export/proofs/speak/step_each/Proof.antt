@@ -22,7 +22,7 @@ loop-again : tie.Need-loop-again Inv-loop μ-loop
 loop-again c =
     let a = c .before .before .before .before .before .before .before .args in
     let l = c .before .before .before .before .loop in
-    filled-more _ _ _ (l .inv) (omega arith) (step-is (now (a .image)) (now (a .voice)) (l .chip) (c .before .before .step .ensures) (search needs)) tt
+    filled-more _ _ _ (l .inv) (omega arith) (step-is (now (a .image)) (now (a .voice)) (l .chip) (c .before .before .step .ensures .0) (search needs)) tt
 
 returns : tie.Need-returns Inv-loop μ-loop
 returns c = filled-all _ _ _ (c .before .loop .inv) (omega arith) .1
