@@ -13,8 +13,8 @@ use Rattle.rom.specs.Frames.{pitchBits, bitCount}
 use Rattle.rom.specs.Reader.{frameAt, takenOf, frameTakenOf}
 use Rattle.rom.specs.declared.frames.Frame.{Frame}
 use Rattle.rom.specs.declared.frames.Frame.the-variants.{Silence, Stop, Repeat, Unvoiced, Voiced}
-use Rattle.rom.specs.declared.reader.Taken.{Taken}
-use Rattle.rom.specs.declared.reader.Taken.the-variants.{Whole, Cut}
+use Rattle.rom.specs.declared.reader.FrameAnswer.{FrameAnswer}
+use Rattle.rom.specs.declared.reader.FrameAnswer.the-variants.{Whole, Cut}
 use Rattle.rom.proofs.Checks.{valid-length}
 
 bits-most : (f : Frame) → bitCount pitchBits f ≤ 50
@@ -24,7 +24,7 @@ bits-most (Repeat e p) = omega arith
 bits-most (Unvoiced e k1 k2 k3 k4) = omega arith
 bits-most (Voiced e p k1 k2 k3 k4 k5 k6 k7 k8 k9 k10) = omega arith
 
-taken-most : (t : Taken) → takenOf pitchBits t .bits ≤ 50
+taken-most : (t : FrameAnswer) → takenOf pitchBits t .bits ≤ 50
 taken-most (Whole f next) = bits-most f
 taken-most Cut = omega arith
 

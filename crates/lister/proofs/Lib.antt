@@ -6,4 +6,6 @@ pub mod Copies
 pub mod PhraseLines
 pub mod ListingLaws
 pub mod Filling
+pub mod AddressLaws
+pub mod Spelling
 pub mod Theorems

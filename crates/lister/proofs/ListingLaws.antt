@@ -2,7 +2,8 @@
 -- Assumes nothing.
 use mathlib.Core.Path.{_≡_}
 use mathlib.Core.List.{List, _++_, append-nil}
-use Prim.Native.Nat.{ℕ, _≤_, _<_}
+use Prim.Native.Nat.{ℕ, _*_, _^_, _≤_, _<_}
+use native.Mathlib.Omega.{arith}
 use borrow.Author.Tests.{lt-ltb, le-ltb, eq-eqb, ne-eqb}
 use lib.ListN.{length}
 use Rattle.base.specs.Refusals.{TAKEN, IMAGE}
@@ -10,29 +11,45 @@ use Rattle.rom.specs.Frames.{pitchBits}
 use Rattle.rom.specs.Phrases.{framesAt, walkOf, phraseOf}
 use Rattle.rom.specs.declared.phrases.Walked.{Walked}
 use Rattle.lister.specs.Lines.{phraseLine, refusedLine}
-use Rattle.lister.specs.Listing.{limit, linesOf, linesFrom, listing}
-use Rattle.rom.proofs.Theorems.{walk-accepts, walk-counts}
+use Rattle.lister.specs.declared.asked.Asked.{Asked}
+use Rattle.lister.specs.Listing.{linesOf, linesFrom, listingOf}
+use Rattle.rom.proofs.Checks.{valid-length}
+use Rattle.rom.proofs.Theorems.{phrase-inside, walk-accepts, walk-counts}
 use Rattle.lister.proofs.PhraseLines.{lines-are, frames-found}
 
-module _ (s : List ℕ) where
-  pub listing-long : limit < length s → refusedLine IMAGE ++ linesFrom s 0 0 ≡ listing s
-  unfolding listing linesFrom
-  listing-long h = rw (lt-ltb limit (length s) h) (append-nil (refusedLine IMAGE))
+module _ (q : Asked) (s : List ℕ) where
+  pub listing-long : q .most < length s → listingOf q s ≡ refusedLine IMAGE
+  unfolding listingOf
+  listing-long h = rw (lt-ltb (q .most) (length s) h)
 
-  module _ (h : length s ≤ limit) (w : Walked) (e : w ≡ walkOf pitchBits s 0) where
-    pub listing-refused : (w .refusal ≡ TAKEN → ⊥) → refusedLine (w .refusal) ++ linesFrom s 0 0 ≡ listing s
-    unfolding listing linesFrom
-    listing-refused r = rw (le-ltb limit (length s) h, ← e, ne-eqb (w .refusal) TAKEN r) (append-nil (refusedLine (w .refusal)))
+  module _ (h : length s ≤ q .most) (w : Walked) (e : w ≡ walkOf pitchBits s (q .address)) where
+    pub listing-refused : (w .refusal ≡ TAKEN → ⊥) → listingOf q s ≡ refusedLine (w .refusal)
+    unfolding listingOf
+    listing-refused r = rw (le-ltb (q .most) (length s) h, ← e, ne-eqb (w .refusal) TAKEN r)
 
-    pub listing-phrase : w .refusal ≡ TAKEN
-        → phraseLine (w .frames .0) (w .bits) (length (phraseOf pitchBits s 0)) ++ linesFrom s 0 (w .frames .0) ≡ listing s
-    unfolding listing
-    listing-phrase r =
-        let p = walk-accepts pitchBits s 0 .0 (rw e at r) in
-        let fs = p .1 .0 in
-        let ph = p .1 .1 in
-        let n : w .frames .0 ≡ length fs = rw (e, walk-counts pitchBits s 0 fs (p .0) ph) in
-        let all = frames-found s fs (p .0) ph in
-        let l : linesFrom s 0 (w .frames .0) ≡ linesOf 0 (framesAt pitchBits s 0) =
-        rw (n, all) (lines-are s (p .0) 0 fs (ph .encoded .proper) (ph .encoded .begins)) in
-        rw (le-ltb limit (length s) h, l, ← e, eq-eqb (w .refusal) TAKEN r)
+    pub listing-phrase : w .refusal ≡ TAKEN → {lines bit : ℕ} {part text : List ℕ} → lines ≡ w .frames .0 → part ≡ phraseOf pitchBits s (q .address)
+        → bit ≡ 8 * q .address
+        → text ≡ phraseLine lines (w .bits) (length part)
+        → text ++ linesFrom s bit lines ≡ listingOf q s
+    unfolding listingOf
+    listing-phrase r {lines} {bit} {part} {text} n p b t =
+        let a = q .address in
+        let walked = walk-accepts pitchBits s a .0 (rw e at r) in
+        let fs = walked .1 .0 in
+        let phrase = walked .1 .1 in
+        let count : w .frames .0 ≡ length fs = rw (e, walk-counts pitchBits s a fs (walked .0) phrase) in
+        let same : linesFrom s (8 * a) (w .frames .0) ≡ linesOf (8 * a) (framesAt pitchBits s a) =
+        rw (count, frames-found s a fs phrase) (lines-are s (walked .0) (8 * a) fs (phrase .encoded .proper) (phrase .encoded .begins)) in
+        rw (t, n, p, b, le-ltb (q .most) (length s) h, same, ← e, eq-eqb (w .refusal) TAKEN r)
+
+-- the first bit of a phrase fits a usize
+pub first-fits : (s : List ℕ) (a : ℕ) (w : Walked) → w ≡ walkOf pitchBits s a → w .refusal ≡ TAKEN → 8 * a < 2 ^ 64
+first-fits s a w e r =
+    let p = walk-accepts pitchBits s a .0 (rw e at r) in
+    omega (arith, phrase-inside pitchBits s a (p .1 .1), valid-length s (p .0) .1)
+
+-- a line that no frame line follows is the whole listing
+pub alone : (s : List ℕ) (bit lines : ℕ) {text line all : List ℕ} → (text ≡ line) × (lines ≡ 0) → all ≡ line
+    → text ++ linesFrom s bit lines ≡ all
+unfolding linesFrom
+alone s bit lines {text} {line} {all} r e = rw (r .0, r .1, e) (append-nil line)

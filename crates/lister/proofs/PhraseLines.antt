@@ -1,9 +1,9 @@
--- The frames of a phrase at address 0, and that their lines are those of the frames taken one after another.
+-- The frames of a phrase, and that their lines are those of the frames taken one after another.
 -- Assumes nothing.
 use mathlib.Core.Path.{_≡_, refl}
 use mathlib.Core.Bool.{true}
 use mathlib.Core.List.{List, [], _∷_}
-use Prim.Native.Nat.{ℕ, _+_, _*_, _<_}
+use Prim.Native.Nat.{ℕ, _+_, _*_, _≤_, _<_}
 use native.Mathlib.Omega.{arith}
 use borrow.Author.Tests.{lt-leb}
 use lib.ListN.{length}
@@ -13,12 +13,11 @@ use Rattle.rom.specs.Reader.{frameAt, takenOf, frameTakenOf}
 use Rattle.rom.specs.Items.{bitsAll, AllProper, phrase}
 use Rattle.rom.specs.Phrases.{frameCode, PhraseAt, framesAt}
 use Rattle.rom.specs.declared.frames.Frame.{Frame}
-use Rattle.rom.specs.declared.reader.Taken.the-variants.{Whole}
-use Rattle.rom.proofs.Checks.{valid-length}
+use Rattle.rom.specs.declared.reader.FrameAnswer.the-variants.{Whole}
 use Rattle.rom.proofs.CentralLaw.{central-law}
 use Rattle.rom.proofs.Encoding.{begins-room, begins-split, length-encoded}
 use Rattle.rom.proofs.FrameCode.{four-bits}
-use Rattle.rom.proofs.Theorems.{frames-read}
+use Rattle.rom.proofs.Theorems.{phrase-inside, frames-read}
 use Rattle.lister.specs.Listing.{linesOf, lineAt, after, linesFrom}
 
 module _ (s : List ℕ) (v : imageValid s ≡ true) where
@@ -40,6 +39,6 @@ module _ (s : List ℕ) (v : imageValid s ≡ true) where
       let rest = lines-are (at + bitCount pitchBits f) fs (p .1) (rw length-encoded at (parts .1)) in
       rw (taken-whole at f (at + length bits) inside whole, rest)
 
--- the frames read from address 0 on are the phrase's
-pub frames-found : (s : List ℕ) (fs : List Frame) → imageValid s ≡ true → PhraseAt pitchBits s 0 fs → framesAt pitchBits s 0 ≡ fs
-frames-found s fs v p = frames-read pitchBits s 0 fs (valid-length s v .0) .0 (phrase p)
+-- the frames read from an address on are those of the phrase that begins there
+pub frames-found : (s : List ℕ) (a : ℕ) (fs : List Frame) → PhraseAt pitchBits s a fs → framesAt pitchBits s a ≡ fs
+frames-found s a fs p = frames-read pitchBits s a fs (phrase-inside pitchBits s a p) .0 (phrase p)

@@ -42,14 +42,14 @@ module _ (t : Text) (e : length (t .bytes) ≡ 80) where
 
 -- the text t has come to hold s, or as much of s as it has room for
 pub record Holds (t : Text) (s : List ℕ) : Type 0 where
-  pub held : contents t ≡ take 80 s
+  pub text : contents t ≡ take 80 s
 
 pub holds-nothing : {t : Text} → contents t ≡ [] → Holds t []
-holds-nothing e = record { held = e }
+holds-nothing e = record { text = e }
 
 pub holds-more : {t r : Text} {s : List ℕ} (b : List ℕ) → Holds t s → contents r ≡ appended t b → Holds r (s ++ b)
 unfolding appended
-holds-more {t} {r} {s} b h e = record { held = e ∙ rw (h .held) (take-append 80 s b) }
+holds-more {t} {r} {s} b h e = record { text = e ∙ rw (h .text) (take-append 80 s b) }
 
 pub holds-all : {t : Text} {s : List ℕ} → Holds t s → length s ≤ 80 → contents t ≡ s
-holds-all {t} {s} h l = h .held ∙ take-all 80 s l
+holds-all {t} {s} h l = h .text ∙ take-all 80 s l

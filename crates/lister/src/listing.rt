@@ -1,10 +1,12 @@
-// The listing of an image: its first line, and its frame lines, collected in a buffer.
+// The listing of an image from a byte address on: its first line, and its frame lines, collected in a buffer.
 ghost use mathlib.Core.Path.{_≡_};
 ghost use mathlib.Core.List.{_++_};
 ghost use Prim.Native.Nat.{_+_, _≤_};
 ghost use lib.ListN.{length, take};
 ghost use Rattle.lister.specs.Text.{contents};
-ghost use Rattle.lister.specs.Listing.{lineAt, after, linesFrom, listing, Fills};
+ghost use Rattle.lister.specs.Lines.{refusedLine};
+ghost use Rattle.lister.specs.Listing.{lineAt, after, linesFrom, listingOf, Fills};
+use crate::asked::Asked;
 use crate::lines::frame_line;
 use crate::lines::phrase_line;
 use crate::lines::refused_line;
@@ -18,37 +20,44 @@ use rom::phrases::phrase;
 use rom::phrases::walk;
 use rom::reader::frame_taken;
 
-// The most bytes of an image that the lister takes.
-pub const LIMIT: usize = 65536;
-
-// A first line, and how many frame lines follow it.
+// A first line, and the frame lines that follow it: the first bit of the first, and how many.
 pub struct First {
     pub text: Text,
+    pub bit: usize,
     pub lines: u32,
 }
 
-pub fn first_line(image: &[u8]) -> First
-    ensures { λ r. ⌜ contents (r .text) ++ linesFrom (now (image .entry)) 0 (r .lines) ≡ listing (now (image .entry)) ⌝ }
+// The line of a refusal, which no frame line follows.
+fn refused(refusal: u8) -> First
+    ensures { λ r. ⌜ (contents (r .text) ≡ refusedLine refusal) × (r .lines ≡ 0) ⌝ }
 {
-    if image.len() > LIMIT {
-        return First {
-            text: refused_line(IMAGE),
-            lines: 0,
-        };
+    First {
+        text: refused_line(refusal),
+        bit: 0,
+        lines: 0,
     }
-    let walked = walk(image, 0);
+}
+
+// The first line for an image.
+pub fn first_line(image: &[u8], asked: Asked) -> First
+    ensures { λ r. ⌜ contents (r .text) ++ linesFrom (now (image .entry)) (r .bit) (r .lines) ≡ listingOf asked (now (image .entry)) ⌝ }
+{
+    let address = asked.address;
+    if image.len() > asked.most {
+        return refused(IMAGE);
+    }
+    let walked = walk(image, address);
     let refusal = walked.refusal;
     if refusal != TAKEN {
-        return First {
-            text: refused_line(refusal),
-            lines: 0,
-        };
+        return refused(refusal);
     }
     let frames = walked.frames;
-    let part = phrase(image, 0);
+    let lines = frames.count();
+    let part = phrase(image, address);
     First {
-        text: phrase_line(frames.0, walked.bits, part.len()),
-        lines: frames.0,
+        text: phrase_line(lines, walked.bits, part.len()),
+        bit: 8 * address,
+        lines,
     }
 }
 
@@ -69,7 +78,7 @@ pub fn line_at(image: &[u8], bit: usize) -> Line
     }
 }
 
-// Puts a text into the buffer from index `at` on, and answers the index after it.
+// Puts a text into the buffer from index `at` on, and returns the index after it.
 fn put(out: &mut [u8], at: usize, t: Text) -> usize
     requires { ⌜ at + 80 ≤ length (now out) ⌝ }
     ensures { λ r. ⌜ (r ≤ at + 80) × (take r (now (out .exit)) ≡ take at (now (out .entry)) ++ contents t) ⌝ }

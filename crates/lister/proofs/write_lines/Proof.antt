@@ -8,10 +8,10 @@ use Rattle.lister.proofs.write_lines.Statement.{statement}
 use Rattle.lister.proofs.write_lines.Tie as tie
 
 abbrev Inv-loop : tie.InvT-loop
-Inv-loop image lines out₀ bit₀ left₀ out bit left = length out ≡ 65536
+Inv-loop image first lines out₀ bit₀ left₀ out bit left = length out ≡ 65536
 
 abbrev μ-loop : tie.MeasureT-loop
-μ-loop image lines out₀ bit₀ left₀ out bit left = left
+μ-loop image first lines out₀ bit₀ left₀ out bit left = left
 
 pub write-lines-spec : {M : Type 1} → statement M
 write-lines-spec =

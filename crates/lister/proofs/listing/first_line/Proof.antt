@@ -1,6 +1,8 @@
 -- `lister::listing::first_line` meets its contract. Assumes nothing.
 use borrow.Author.Needs.{needs}
-use Rattle.lister.proofs.ListingLaws.{listing-long, listing-refused, listing-phrase}
+use mathlib.Core.Path.{refl}
+use native.Mathlib.Omega.{arith}
+use Rattle.lister.proofs.ListingLaws.{listing-long, listing-refused, listing-phrase, first-fits, alone}
 use Rattle.lister.proofs.listing.first_line.Statement.{statement}
 use Rattle.lister.proofs.listing.first_line.Tie as tie
 
@@ -9,15 +11,19 @@ first-line-spec =
     tie.close
     (tie.spec
     (λ c κs. search needs)
-    (λ c. rw (c .refused-line .ensures) (listing-long _ (c .before .if1 .taken)))
+    (λ c. alone _ _ _ (c .refused .ensures) (listing-long _ _ (c .before .if1 .taken)))
     (λ c κs. search needs)
     (λ c κs. search needs)
     (λ c.
     let w = c .before .before in
-    rw (c .refused-line2 .ensures) (listing-refused _ (w .before .if1 .left) (w .walk .result) (w .walk .ensures) (c .before .if2 .taken)))
+    alone _ _ _ (c .refused2 .ensures) (listing-refused _ _ (w .before .if1 .left) (w .walk .result) (w .walk .ensures) (c .before .if2 .taken)))
+    (λ c κs. search needs)
     (λ c κs. search needs)
     (λ c κs. search needs)
     (λ c.
-    let w = c .before .before .before .before in
-    rw (c .phrase-line .ensures, c .before .phrase .ensures)
-    (listing-phrase _ (w .before .if1 .left) (w .walk .result) (w .walk .ensures) (c .before .before .before .if2 .left))))
+    let w = c .before .before .before .before .before in
+    omega (arith, first-fits _ _ (w .walk .result) (w .walk .ensures) (c .before .before .before .before .if2 .left)))
+    (λ c.
+    let w = c .before .before .before .before .before in
+    listing-phrase _ _ (w .before .if1 .left) (w .walk .result) (w .walk .ensures) (c .before .before .before .before .if2 .left)
+    (c .before .before .count .ensures) (c .before .phrase .ensures) refl (c .phrase-line .ensures)))

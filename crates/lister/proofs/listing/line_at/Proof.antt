@@ -8,13 +8,13 @@ use Rattle.lister.proofs.listing.line_at.Tie as tie
 add-t7 : tie.Need-add-t7
 add-t7 c =
     let b = c .before .before .before in
-    rw (b .frame-taken .ensures) (record { fits = next-fits _ _ (search needs) })
+    rw (b .frame-taken .ensures .0) (record { fits = next-fits _ _ (search needs) })
 
 returns : tie.Need-returns
 unfolding lineAt after
 returns c =
     let b = c .before .before .before in
-    (rw (c .before .frame-line .ensures, c .before .before .numbers .ensures, b .frame-taken .ensures), rw (b .frame-taken .ensures))
+    (rw (c .before .frame-line .ensures, c .before .before .numbers .ensures, b .frame-taken .ensures .0), rw (b .frame-taken .ensures .0))
 
 pub line-at-spec : {M : Type 1} → statement M
 line-at-spec =

@@ -1,0 +1,63 @@
+-- Decimal digits, read as an address, give their number.
+-- Assumes nothing.
+use mathlib.Core.Path.{_≡_, refl}
+use mathlib.Core.Bool.{Bool, true, false, cond}
+use mathlib.Core.List.{List, [], _∷_, _++_}
+use Prim.Native.Nat.{ℕ, zero, suc, _+_, _*_, _-_, _/_, _%_, _≤_, _<_}
+use native.Mathlib.Omega.{arith}
+use borrow.Author.Tests.{lt-ltb, le-leb, ltb-true, ltb-false}
+use lib.Dec.{ltb}
+use lib.ListN.{length, length-append}
+use Rattle.base.proofs.Booleans.{both-true, and-true}
+use Rattle.rom.specs.Bits.{imageLimit}
+use Rattle.lister.specs.Text.{decimal}
+use Rattle.lister.specs.Address.{isDigit, allDigits, numberAfter, addressAfter, addressOf}
+use Rattle.lister.proofs.Decimals.{decimal-one, decimal-more}
+
+-- a last digit
+number-last : (n : ℕ) (cs : List ℕ) (c : ℕ) → numberAfter n (cs ++ (c ∷ [])) ≡ 10 * numberAfter n cs + (c - 48)
+unfolding numberAfter
+number-last n [] c = refl
+number-last n (x ∷ cs) c = number-last (10 * n + (x - 48)) cs c
+
+digits-last : (cs : List ℕ) (c : ℕ) → allDigits cs ≡ true → isDigit c ≡ true → allDigits (cs ++ (c ∷ [])) ≡ true
+unfolding allDigits
+digits-last [] c h d = rw d
+digits-last (x ∷ cs) c h d = let t = both-true (isDigit x) (allDigits cs) h in rw (t .0) (digits-last cs c (t .1) d)
+
+-- the text is the digits of n, one or more
+record Spells (text : List ℕ) (n : ℕ) : Type 0 where
+  some : 0 < length text
+  digits : allDigits text ≡ true
+  number : numberAfter 0 text ≡ n
+
+a-digit : (d : ℕ) → d < 10 → isDigit (48 + d) ≡ true
+a-digit d h = rw (le-leb 48 (48 + d) (omega arith), le-leb (48 + d) 57 (omega arith))
+
+decimal-spells : (k n : ℕ) → n < k → Spells (decimal n) n
+unfolding numberAfter allDigits
+decimal-spells zero n h = absurd (omega arith)
+decimal-spells (suc k) n h = go (ltb n 10) refl (λ l. decimal-spells k (n / 10) (omega arith))
+  where
+    d : isDigit (48 + n % 10) ≡ true
+    d = a-digit (n % 10) (omega arith)
+
+    go : (b : Bool) → ltb n 10 ≡ b → (10 ≤ n → Spells (decimal (n / 10)) (n / 10)) → Spells (decimal n) n
+    go true e tenth =
+        rw (decimal-one n (ltb-true n 10 e))
+        (record { some = omega arith; digits = rw d; number = omega (arith, ltb-true n 10 e) })
+    go false e tenth =
+        let l = ltb-false n 10 e in
+        let t = tenth l in
+        rw (decimal-more n l)
+        (record {
+          some = simp length-append (omega arith);
+          digits = digits-last (decimal (n / 10)) (48 + n % 10) (t .digits) d;
+          number = rw (number-last 0 (decimal (n / 10)) (48 + n % 10), t .number) (omega arith);
+        })
+
+pub address-of-decimal : (n : ℕ) → addressOf (decimal n) ≡ cond (ltb n imageLimit) n imageLimit
+unfolding addressOf addressAfter
+address-of-decimal n =
+    let t = decimal-spells (suc n) n (omega arith) in
+    rw (lt-ltb 0 (length (decimal n)) (t .some), t .number, t .digits, and-true (ltb n imageLimit))
