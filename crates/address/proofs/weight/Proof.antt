@@ -7,8 +7,7 @@ use Rattle.address.proofs.weight.Tie as tie
 
 pub weight-spec : {M : Type 1} → statement M
 weight-spec =
-    tie.close
-    (tie.spec
+    tie.close (tie.spec
     (λ c. rw (c .match .keys1) (omega arith))
     (λ c. rw (c .match .keys2) (omega arith))
     (λ c. rw (c .match .keys3) (omega arith))

@@ -10,11 +10,7 @@ small c = parts _ _ _ (c .before .pre .2) (c .weight .ensures .1) (c .weight .en
 
 pub with-nibble-spec : {M : Type 1} → statement M
 with-nibble-spec =
-    tie.close
-    (tie.spec
-    (λ c κs. search needs)
-    (λ c. search needs)
-    (λ c. search needs)
+    tie.close (tie.spec (λ c κs. search needs) (λ c. search needs) (λ c. search needs)
     (λ c. let s = small c in omega arith)
     (λ c. let s = small c in omega arith)
     (λ c. let s = small c in omega arith)

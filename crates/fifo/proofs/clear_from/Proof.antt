@@ -47,15 +47,6 @@ returns-2 c =
 
 pub clear-from-spec : {M : Type 1} → statement M
 clear-from-spec =
-    tie.close
-    (tie.spec
-    Inv-loop
-    μ-loop
+    tie.close (tie.spec Inv-loop μ-loop
     (λ c. (cleared (c .args .t1) (c .args .from) (search needs), search needs))
-    (λ c. search needs)
-    (λ c. search needs)
-    returns
-    (λ c. search needs)
-    (λ c. search needs)
-    loop-again
-    returns-2)
+    (λ c. search needs) (λ c. search needs) returns (λ c. search needs) (λ c. search needs) loop-again returns-2)

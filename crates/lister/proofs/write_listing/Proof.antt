@@ -14,13 +14,6 @@ array-share-prefix-bytes c = rw (c .before .size .ensures, length-take) (omega a
 
 pub write-listing-spec : {M : Type 1} → statement M
 write-listing-spec =
-    tie.close
-    (tie.spec
-    (λ c κs. search needs)
-    (λ c κs. search needs)
-    array-share-prefix-bytes
+    tie.close (tie.spec (λ c κs. search needs) (λ c κs. search needs) array-share-prefix-bytes
     (λ c. sym (length-take-le _ _ (array-share-prefix-bytes (c .before))))
-    (λ c κs. search needs)
-    (λ c. search needs)
-    (λ c κs. search needs)
-    (λ c. search needs))
+    (λ c κs. search needs) (λ c. search needs) (λ c κs. search needs) (λ c. search needs))

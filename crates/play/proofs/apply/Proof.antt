@@ -32,22 +32,12 @@ interpolate-requires-2 c κs =
 
 pub apply-spec : {M : Type 1} → statement M
 apply-spec =
-    tie.close
-    (tie.spec
-    (λ c. search needs)
-    (λ c κs. search needs)
-    (λ c. search needs)
-    (λ c κs. search needs)
-    (λ c κs. search needs)
-    (λ c. search needs)
-    (λ c κs. search needs)
-    interpolate-requires
+    tie.close (tie.spec (λ c. search needs) (λ c κs. search needs) (λ c. search needs) (λ c κs. search needs)
+    (λ c κs. search needs) (λ c. search needs) (λ c κs. search needs) interpolate-requires
     (λ c κs. (rw (c .interpolate .ensures) (stays-valid .interpolation _ _ (aimed-valid (c .before))), c .before .before .before .before .before .before .pre .0))
-    (λ c. search needs)
-    interpolate-requires-2
+    (λ c. search needs) interpolate-requires-2
     (λ c κs. let p = c .before .before .before .before .before .pre in (rw (c .interpolate2 .ensures) (stays-valid .interpolation _ _ (p .3)), p .0))
-    (λ c. search needs)
-    (λ c κs. search needs)
+    (λ c. search needs) (λ c κs. search needs)
     (λ c. rw (c .before .enum-told .given .1) (c .silent .ensures))
     (λ c. rw (c .before .before .enum-told2 .given .1) (rw (c .before .at-rest .ensures) at (c .silent2 .ensures)))
     (λ c.

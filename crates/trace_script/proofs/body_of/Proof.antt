@@ -8,8 +8,7 @@ use Rattle.trace_script.proofs.body_of.Tie as tie
 pub body-of-spec : {M : Type 1} → statement M
 unfolding bodyOf
 body-of-spec =
-    tie.close
-    (tie.spec
+    tie.close (tie.spec
     (λ c. rw (c .if1 .taken))
     (λ c. rw (c .before .if1 .left, eq-eqb _ 87 (c .if2 .taken)))
     (λ c. rw (c .before .before .if1 .left, ne-eqb _ 87 (c .before .if2 .left), c .if3 .taken))

@@ -27,11 +27,7 @@ returns-2 c =
 
 pub signed-spec : {M : Type 1} → statement M
 signed-spec =
-    tie.close
-    (tie.spec
-    (λ c. search needs)
-    (λ c. search needs)
-    (λ c. search needs)
+    tie.close (tie.spec (λ c. search needs) (λ c. search needs) (λ c. search needs)
     (λ c. rw (kept c, minus-one-less (18446744073709551615 - c .before .args .n)) (record { sfits = small c }))
     (λ c. rw (lt-ltb (c .before .args .n) (2 ^ 63) (c .if1 .taken)))
     returns-2)

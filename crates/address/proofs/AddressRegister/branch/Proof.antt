@@ -5,8 +5,5 @@ use Rattle.address.proofs.AddressRegister.branch.Tie as tie
 
 pub branch-spec : {M : Type 1} → statement M
 branch-spec =
-    tie.close
-    (tie.spec
-    (λ c κs. search needs)
-    (λ c. search needs)
+    tie.close (tie.spec (λ c κs. search needs) (λ c. search needs)
     (λ c. rw (c .branch-address .ensures)))

@@ -5,9 +5,5 @@ use Rattle.address.proofs.AddressRegister.load.Tie as tie
 
 pub load-spec : {M : Type 1} → statement M
 load-spec =
-    tie.close
-    (tie.spec
-    (λ c κs. search needs)
-    (λ c. search needs)
-    (λ c. search needs)
+    tie.close (tie.spec (λ c κs. search needs) (λ c. search needs) (λ c. search needs)
     (λ c. rw (c .with-nibble .ensures)))

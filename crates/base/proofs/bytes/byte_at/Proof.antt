@@ -7,8 +7,5 @@ use Rattle.base.proofs.bytes.byte_at.Tie as tie
 
 pub byte-at-spec : {M : Type 1} → statement M
 byte-at-spec =
-    tie.close
-    (tie.spec
-    (λ c. search needs)
-    (λ c. search needs)
+    tie.close (tie.spec (λ c. search needs) (λ c. search needs)
     (λ c. sym (List·getD-eq-default (c .before .args .s .now) 0 (c .if1 .left))))

@@ -12,18 +12,12 @@ use Rattle.bus.proofs.accept.accept.Tie as tie
 
 pub accept-spec : {M : Type 1} → statement M
 accept-spec =
-    tie.close
-    (tie.spec
-    (λ c. search needs)
+    tie.close (tie.spec (λ c. search needs)
     (λ c κs. address-ranges _ (control-ranges _ (c .before .before .before .pre .0) .address))
-    (λ c. search needs)
-    (λ c κs. search needs)
-    (λ c. search needs)
+    (λ c. search needs) (λ c κs. search needs) (λ c. search needs)
     (λ c κs. let p = c .before .before .before .pre in room _ _ (p .0) (p .2))
     (λ c. let p = c .before .before .before .before .pre in omega (arith, room _ _ (p .0) (p .2)))
-    (λ c κs. search needs)
-    (λ c κs. search needs)
-    (λ c. search needs)
+    (λ c κs. search needs) (λ c κs. search needs) (λ c. search needs)
     (λ c κs. let p = c .before .before .before .pre in room _ _ (p .0) (p .2))
     (λ c κs. search needs)
     (λ c. in-mode _ _ _ (c .before .enum-told .given .1) (rw (c .before .before .before .before .pre .1) at (c .obey .ensures)))

@@ -5,8 +5,5 @@ use Rattle.chip.proofs.run.samples_left.Tie as tie
 
 pub samples-left-spec : {M : Type 1} → statement M
 samples-left-spec =
-    tie.close
-    (tie.spec
-    (λ c κs. search needs)
-    (λ c κs. search needs)
+    tie.close (tie.spec (λ c κs. search needs) (λ c κs. search needs)
     (λ c. rw (c .count .ensures, c .before .left-of-interval .ensures)))

@@ -21,15 +21,9 @@ abbrev μ-loop : tie.MeasureT-loop
 
 pub silence-spec : {M : Type 1} → statement M
 silence-spec =
-    tie.close
-    (tie.spec
-    Inv-loop
-    μ-loop
+    tie.close (tie.spec Inv-loop μ-loop
     (λ c. filled-none _ _ _ _ tt)
-    (λ c. search needs)
-    (λ c. search needs)
-    (λ c. search needs)
-    (λ c. search needs)
+    (λ c. search needs) (λ c. search needs) (λ c. search needs) (λ c. search needs)
     (λ c. filled-more _ _ _ (c .before .loop .inv) (omega arith) refl tt)
     (λ c. search needs)
     (λ c. filled-all _ _ _ (c .before .loop .inv) (omega arith) .1 ∙ same-outputs quiet (length (c .before .before .args .out .now)) refl))

@@ -23,8 +23,7 @@ returns-8 c =
 
 pub command-of-spec : {M : Type 1} → statement M
 command-of-spec =
-    tie.close
-    (tie.spec
+    tie.close (tie.spec
     (λ c. rw (c .match .keys1))
     (λ c. rw (c .match .keys2))
     (λ c. rw (c .match .keys3))

@@ -28,19 +28,11 @@ returns c = turning-all _ _ _ _ _ (c .before .loop .inv) (omega arith)
 
 pub feed-spec : {M : Type 1} → statement M
 feed-spec =
-    tie.close
-    (tie.spec
-    Inv-loop
-    μ-loop
+    tie.close (tie.spec Inv-loop μ-loop
     (λ c. turning-none _ _ _ _ _)
     (λ c. search needs)
     (λ c. search (needs, c .before .before .before .before .before .good .1 .1 .1 .1 .0 .0))
     (λ c. search (needs, c .before .before .before .before .before .good .1 .1 .1 .1 .0 .1))
-    (λ c. search needs)
-    (λ c. search needs)
+    (λ c. search needs) (λ c. search needs)
     (λ c. omega (arith, c .before .loop .inv .size, c .before .loop .inv .within))
-    (λ c κs. search needs)
-    (λ c. search needs)
-    loop-again
-    (λ c. search needs)
-    returns)
+    (λ c κs. search needs) (λ c. search needs) loop-again (λ c. search needs) returns)

@@ -29,16 +29,10 @@ returns c = filled-all _ _ _ (c .before .loop .inv) (omega arith) .1
 
 pub step-each-spec : {M : Type 1} → statement M
 step-each-spec =
-    tie.close
-    (tie.spec
-    Inv-loop
-    μ-loop
+    tie.close (tie.spec Inv-loop μ-loop
     (λ c. filled-none _ _ _ _ tt)
     (λ c κs. search needs)
     (λ c. search (needs, c .before .before .before .before .before .before .good .1 .1 .1 .0 .1))
     (λ c. search needs)
     (λ c. search (needs, c .before .before .before .before .before .before .before .good .1 .1 .1 .0 .0))
-    (λ c. search needs)
-    loop-again
-    (λ c. search needs)
-    returns)
+    (λ c. search needs) loop-again (λ c. search needs) returns)

@@ -12,9 +12,4 @@ returns c = ap (λ (r : Ran). r .refusal) (c .before .run .ensures .0) ∙ run-n
 
 pub step-number-spec : {M : Type 1} → statement M
 step-number-spec =
-    tie.close
-    (tie.spec
-    (λ c. search needs)
-    (λ c. search needs)
-    (λ c κs. search needs)
-    returns)
+    tie.close (tie.spec (λ c. search needs) (λ c. search needs) (λ c κs. search needs) returns)

@@ -5,8 +5,5 @@ use Rattle.fifo.proofs.Fifo.is_inside.Tie as tie
 
 pub is-inside-spec : {M : Type 1} → statement M
 is-inside-spec =
-    tie.close
-    (tie.spec
-    (λ c. search needs)
-    (λ c κs. search needs)
+    tie.close (tie.spec (λ c. search needs) (λ c κs. search needs)
     (λ c. rw (c .before .before .before .clear-from .ensures)))

@@ -79,14 +79,10 @@ index-small c = omega (arith, raised-small (c .before .before .args .z) (c .befo
 
 pub saturate-spec : {M : Type 1} → statement M
 saturate-spec =
-    tie.close
-    (tie.spec
-    (λ c κs. search needs)
-    returns
+    tie.close (tie.spec (λ c κs. search needs) returns
     (λ c. let h = c .before .before .pre in simp (read tt h) (fits tt (raised-range _ h)))
     (λ c. let h = c .before .before .pre in let r = raised-small (c .before .before .args .z) h in simp (read tt h, read tt (raised-range _ h)) (r .0, omega (arith, r .1)))
-    (λ c. search needs)
-    (λ c. search needs)
+    (λ c. search needs) (λ c. search needs)
     (λ c. let h = c .before .before .pre in simp (read tt h, read tt (raised-range _ h)) (omega (arith, index-small c)))
     (λ c. let h = c .before .before .pre in simp (read tt h, read tt (raised-range _ h)) (index-small c))
     returns-2)

@@ -13,7 +13,6 @@ returns c =
 
 pub scale-spec : {M : Type 1} → statement M
 scale-spec =
-    tie.close
-    (tie.spec
+    tie.close (tie.spec
     (λ c. simp (read tt (c .pre .0), read tt (c .pre .1)) (fits tt (product (c .pre .0) (c .pre .1))))
     returns)

@@ -45,17 +45,6 @@ returns-2 c =
 
 pub stage-spec : {M : Type 1} → statement M
 stage-spec =
-    tie.close
-    (tie.spec
-    (λ c. search needs)
-    (λ c. search needs)
-    (λ c. search needs)
-    (λ c. search needs)
-    forward-of-requires
-    (λ c. search needs)
-    memory-of-requires
-    (λ c. search needs)
-    (λ c. search needs)
-    (λ c. search needs)
-    returns
-    returns-2)
+    tie.close (tie.spec (λ c. search needs) (λ c. search needs) (λ c. search needs) (λ c. search needs)
+    forward-of-requires (λ c. search needs) memory-of-requires (λ c. search needs) (λ c. search needs)
+    (λ c. search needs) returns returns-2)

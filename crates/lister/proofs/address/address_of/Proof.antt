@@ -14,15 +14,9 @@ abbrev μ-loop : tie.MeasureT-loop
 
 pub address-of-spec : {M : Type 1} → statement M
 address-of-spec =
-    tie.close
-    (tie.spec
-    Inv-loop
-    μ-loop
+    tie.close (tie.spec Inv-loop μ-loop
     (λ c. address-none _ (search needs))
     (λ c. reading-none _)
-    (λ c. search needs)
-    (λ c κs. search needs)
-    (λ c. search needs)
-    (λ c. search needs)
+    (λ c. search needs) (λ c κs. search needs) (λ c. search needs) (λ c. search needs)
     (λ c. reading-more (c .before .before .before .loop .inv) (c .before .before .loop-test .taken) (c .with-digit .ensures))
     (λ c. reading-done (c .before .loop .inv) (c .before .before .if1 .left) (c .loop-test .left)))

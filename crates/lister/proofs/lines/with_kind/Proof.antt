@@ -8,20 +8,9 @@ use Rattle.lister.proofs.lines.with_kind.Tie as tie
 pub with-kind-spec : {M : Type 1} → statement M
 unfolding kindWord
 with-kind-spec =
-    tie.close
-    (tie.spec
-    (λ c. search needs)
-    (λ c κs. search needs)
-    (λ c. search needs)
-    (λ c κs. search needs)
-    (λ c. search needs)
-    (λ c κs. search needs)
-    (λ c. search needs)
-    (λ c κs. search needs)
-    (λ c. search needs)
-    (λ c κs. search needs)
-    (λ c. search needs)
-    (λ c κs. search needs)
+    tie.close (tie.spec (λ c. search needs) (λ c κs. search needs) (λ c. search needs) (λ c κs. search needs)
+    (λ c. search needs) (λ c κs. search needs) (λ c. search needs) (λ c κs. search needs) (λ c. search needs)
+    (λ c κs. search needs) (λ c. search needs) (λ c κs. search needs)
     (λ c. rw (c .before .before .match .keys1) (c .with-word .ensures))
     (λ c. rw (c .before .before .match .keys2) (c .with-word2 .ensures))
     (λ c. rw (c .before .before .match .keys3) (c .with-word3 .ensures))

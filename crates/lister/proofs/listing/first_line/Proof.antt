@@ -8,18 +8,13 @@ use Rattle.lister.proofs.listing.first_line.Tie as tie
 
 pub first-line-spec : {M : Type 1} → statement M
 first-line-spec =
-    tie.close
-    (tie.spec
-    (λ c κs. search needs)
+    tie.close (tie.spec (λ c κs. search needs)
     (λ c. alone _ _ _ (c .refused .ensures) (listing-long _ _ (c .before .if1 .taken)))
-    (λ c κs. search needs)
-    (λ c κs. search needs)
+    (λ c κs. search needs) (λ c κs. search needs)
     (λ c.
     let w = c .before .before in
     alone _ _ _ (c .refused2 .ensures) (listing-refused _ _ (w .before .if1 .left) (w .walk .result) (w .walk .ensures) (c .before .if2 .taken)))
-    (λ c κs. search needs)
-    (λ c κs. search needs)
-    (λ c κs. search needs)
+    (λ c κs. search needs) (λ c κs. search needs) (λ c κs. search needs)
     (λ c.
     let w = c .before .before .before .before .before in
     omega (arith, first-fits _ _ (w .walk .result) (w .walk .ensures) (c .before .before .before .before .if2 .left)))

@@ -11,9 +11,5 @@ returns c = byte-appended (c .before .before .args .t) (search needs) _ (c .befo
 
 pub with-byte-spec : {M : Type 1} → statement M
 with-byte-spec =
-    tie.close
-    (tie.spec
-    (λ c. search needs)
-    (λ c. search needs)
-    returns
+    tie.close (tie.spec (λ c. search needs) (λ c. search needs) returns
     (λ c. byte-dropped (c .before .args .t) (search needs) _ (c .if1 .left)))

@@ -5,12 +5,7 @@ use Rattle.reports.proofs.Report.frame.Tie as tie
 
 pub frame-spec : {M : Type 1} → statement M
 frame-spec =
-    tie.close
-    (tie.spec
-    (λ c. search needs)
-    (λ c. search needs)
-    (λ c. search needs)
-    (λ c. search needs)
+    tie.close (tie.spec (λ c. search needs) (λ c. search needs) (λ c. search needs) (λ c. search needs)
     (λ c. search needs)
     (λ c. rw (c .before .self .given .1))
     (λ c. rw (c .enum-told2 .given .1))

@@ -17,15 +17,9 @@ abbrev μ-loop : tie.MeasureT-loop
 
 pub be64-end-spec : {M : Type 1} → statement M
 be64-end-spec =
-    tie.close
-    (tie.spec
-    Inv-loop
-    μ-loop
+    tie.close (tie.spec Inv-loop μ-loop
     (λ c. (search needs, back-first _ _))
-    (λ c. search needs)
-    (λ c. search needs)
-    (λ c κs. search needs)
-    (λ c. search needs)
+    (λ c. search needs) (λ c. search needs) (λ c κs. search needs) (λ c. search needs)
     (λ c.
     let l = c .before .before in
     (search needs, c .move-on .ensures ∙ back-on _ (c .before .shared-slice-known2 .given) _ _ (l .loop-test .taken) (l .before .loop .inv .1)))

@@ -5,8 +5,7 @@ use Rattle.rom.proofs.head.kind_of.Tie as tie
 
 pub kind-of-spec : {M : Type 1} → statement M
 kind-of-spec =
-    tie.close
-    (tie.spec
+    tie.close (tie.spec
     (λ c. kind-is (c .before .args .head) (silence (c .if1 .taken)))
     (λ c. kind-is (c .before .before .args .head) (stop (c .if2 .taken)))
     (λ c. let b = c .before .before in kind-is (b .before .args .head) (repeat (b .if1 .left, c .before .if2 .left) (c .if3 .taken)))

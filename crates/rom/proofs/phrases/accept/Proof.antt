@@ -5,9 +5,6 @@ use Rattle.rom.proofs.phrases.accept.Tie as tie
 
 pub accept-spec : {M : Type 1} → statement M
 accept-spec =
-    tie.close
-    (tie.spec
-    (λ c κs. search needs)
-    (λ c κs. search needs)
+    tie.close (tie.spec (λ c κs. search needs) (λ c κs. search needs)
     (λ c κs. rw (c .intervals .ensures, c .before .of .ensures) (search needs))
     (λ c. rw (c .samples .ensures, c .before .intervals .ensures, c .before .before .of .ensures)))

@@ -15,15 +15,11 @@ room c = phrase-room _ _ _ (c .before .pre) (c .if1 .taken)
 
 pub part-of-spec : {M : Type 1} → statement M
 part-of-spec =
-    tie.close
-    (tie.spec
+    tie.close (tie.spec
     (λ c. omega (arith, room c))
     (λ c. omega (arith, room c))
-    (λ c. search needs)
-    (λ c. search needs)
+    (λ c. search needs) (λ c. search needs)
     (λ c. omega (arith, room c))
-    (λ c. search needs)
-    (λ c. search needs)
-    (λ c. search needs)
+    (λ c. search needs) (λ c. search needs) (λ c. search needs)
     (λ c. phrase-taken _ _ _ (c .before .before .pre) (c .before .if1 .taken))
     (λ c. phrase-refused _ _ _ (c .before .before .pre) (c .before .if1 .left)))

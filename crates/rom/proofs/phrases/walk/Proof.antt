@@ -15,10 +15,7 @@ inside c = let a = c .before .before .before .args in in-image (a .image .now) (
 
 pub walk-spec : {M : Type 1} → statement M
 walk-spec =
-    tie.close
-    (tie.spec
-    (λ c κs. search needs)
-    (λ c κs. search needs)
+    tie.close (tie.spec (λ c κs. search needs) (λ c κs. search needs)
     (λ c. walk-refused _ _ _ (c .before .before .image-fault .ensures) (c .refuse .ensures) (c .before .if1 .taken))
     (λ c. omega (arith, inside c))
     (λ c κs. omega (arith, inside c))

@@ -32,22 +32,14 @@ read c = let f = c .before .before in whole-frame _ _ _ (answered (f .before .be
 
 pub walk-from-spec : {M : Type 1} → statement M
 walk-from-spec =
-    tie.close
-    (tie.spec
-    Inv-loop
-    μ-loop
+    tie.close (tie.spec Inv-loop μ-loop
     (λ c. search (come-first, needs))
-    (λ c κs. search needs)
-    (λ c. search needs)
-    (λ c κs. search needs)
-    (λ c. search needs)
-    (λ c. search needs)
+    (λ c κs. search needs) (λ c. search needs) (λ c κs. search needs) (λ c. search needs) (λ c. search needs)
     (λ c κs. search needs)
     (λ c.
     let f = c .before .before .before in
     c .refuse .ensures ∙ come-cut (f .before .before .loop .inv) (answered f) (c .before .enum-told .given .1))
-    (λ c. search needs)
-    (λ c κs. search needs)
+    (λ c. search needs) (λ c κs. search needs)
     (λ c. omega (arith, read (c .before)))
     (λ c κs. search needs)
     (λ c.

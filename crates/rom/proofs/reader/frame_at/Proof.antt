@@ -6,9 +6,5 @@ use Rattle.rom.proofs.reader.frame_at.Tie as tie
 
 pub frame-at-spec : {M : Type 1} → statement M
 frame-at-spec =
-    tie.close
-    (tie.spec
-    (λ c κs. search needs)
-    (λ c. search needs)
-    (λ c κs. search needs)
+    tie.close (tie.spec (λ c κs. search needs) (λ c. search needs) (λ c κs. search needs)
     (λ c. c .frame-in .ensures _ (c .before .window-at .ensures) refl))

@@ -24,11 +24,7 @@ module _ (c : tie.After-kind-bits) (s : List ℕ) (w : let a = c .before .before
 
 pub frame-in-spec : {M : Type 1} → statement M
 frame-in-spec =
-    tie.close
-    (tie.spec
-    (λ c κs. search needs)
-    (λ c κs. search needs)
-    (λ c κs. search needs)
+    tie.close (tie.spec (λ c κs. search needs) (λ c κs. search needs) (λ c κs. search needs)
     (λ c. omega (arith, kind-bits-most (c .before .before .before .args .pitch-bits) (c .before .kind-of .result)))
     (λ c s w e. cut-is _ _ _ (bits-read (c .before) s w) (omega (arith, c .if1 .taken)))
     (λ c κs. search needs)

@@ -16,19 +16,14 @@ taken-frame c = whole-frame _ _ _ (c .before .before .before .frame-at .ensures)
 
 pub frame-taken-spec : {M : Type 1} → statement M
 frame-taken-spec =
-    tie.close
-    (tie.spec
-    (λ c κs. search needs)
-    (λ c κs. search needs)
+    tie.close (tie.spec (λ c κs. search needs) (λ c κs. search needs)
     (λ c.
     let a = c .before .before .before .before .args in
     with-numbers (take-refused 6 (a .image .now) (a .bit) (c .before .before .image-fault .ensures) (c .no-frame .ensures) (c .before .if1 .taken)))
     (λ c κs.
     let a = c .before .before .before .args in
     omega (arith, in-image (a .image .now) (a .bit / 8) (c .before .image-fault .ensures) (c .if1 .left)))
-    (λ c. search needs)
-    (λ c. search needs)
-    (λ c κs. search needs)
+    (λ c. search needs) (λ c. search needs) (λ c κs. search needs)
     (λ c.
     let b = c .before .before .before in
     with-numbers

@@ -19,10 +19,6 @@ returns c =
 
 pub toward-spec : {M : Type 1} → statement M
 toward-spec =
-    tie.close
-    (tie.spec
+    tie.close (tie.spec
     (λ c. simp (read tt (c .pre .0), read tt (c .pre .1)) (fits tt (difference (c .pre .1) (c .pre .0))))
-    (λ c. search needs)
-    (λ c. search needs)
-    add-result
-    returns)
+    (λ c. search needs) (λ c. search needs) add-result returns)

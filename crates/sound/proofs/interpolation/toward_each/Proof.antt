@@ -42,19 +42,8 @@ loop-again c =
 
 pub toward-each-spec : {M : Type 1} → statement M
 toward-each-spec =
-    tie.close
-    (tie.spec
-    Inv-loop
-    μ-loop
+    tie.close (tie.spec Inv-loop μ-loop
     (λ c. (lit≤ tt, fill-none (c .pre .0 .size ∙ sym (ten c))))
-    (λ c. search needs)
-    (λ c. search needs)
-    (λ c. search needs)
-    (λ c. search needs)
-    toward-requires
-    (λ c. search needs)
-    (λ c. search needs)
-    (λ c. search needs)
-    (λ c. search needs)
-    loop-again
+    (λ c. search needs) (λ c. search needs) (λ c. search needs) (λ c. search needs) toward-requires
+    (λ c. search needs) (λ c. search needs) (λ c. search needs) (λ c. search needs) loop-again
     (λ c. fill-all (c .before .loop .i) (c .before .loop .inv .1) (omega (arith, ten (c .before .before)))))

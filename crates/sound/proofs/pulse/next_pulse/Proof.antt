@@ -16,9 +16,6 @@ next-is c = toZ-pos w32 {n = c .args .place + 1} (omega arith)
 
 pub next-pulse-spec : {M : Type 1} → statement M
 next-pulse-spec =
-    tie.close
-    (tie.spec
-    (λ c. search needs)
-    (λ c. search needs)
+    tie.close (tie.spec (λ c. search needs) (λ c. search needs)
     (λ c. simp (simp (toZ-ofZ, c .before .fits .pitch, next-is (c .before)) at (c .if1 .taken)))
     (λ c. simp (simp (toZ-ofZ, c .before .fits .pitch, next-is (c .before)) at (c .if1 .left))))

@@ -28,10 +28,6 @@ returns c =
 
 pub filtered-spec : {M : Type 1} → statement M
 filtered-spec =
-    tie.close
-    (tie.spec
-    mul-input
-    filter-requires
-    (λ c κs. search needs)
+    tie.close (tie.spec mul-input filter-requires (λ c κs. search needs)
     (λ c. rw (back (c .clamp .result) (c .clamp .ok)) (fits-at w16 tt (value-range c)))
     returns)

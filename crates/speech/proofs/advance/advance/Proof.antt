@@ -8,11 +8,7 @@ use Rattle.speech.proofs.advance.advance.Tie as tie
 
 pub advance-spec : {M : Type 1} → statement M
 advance-spec =
-    tie.close
-    (tie.spec
-    (λ c κs. search needs)
-    (λ c κs. search needs)
-    (λ c κs. search needs)
+    tie.close (tie.spec (λ c κs. search needs) (λ c κs. search needs) (λ c κs. search needs)
     (λ c κs. valid-ranges _ (c .before .before .before .before .before .before .pre .2) .1)
     (λ c κs. search needs)
     (λ c. advanced-boundary _ _ _ (c .before .before .before .if1 .taken) (sym (c .before .before .frame-begins .ensures) ∙ c .before .if2 .taken) (c .boundary .ensures))

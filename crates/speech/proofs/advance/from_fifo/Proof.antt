@@ -29,23 +29,12 @@ use-up-requires c κs =
 
 pub from-fifo-spec : {M : Type 1} → statement M
 from-fifo-spec =
-    tie.close
-    (tie.spec
-    (λ c. search needs)
-    (λ c. search needs)
+    tie.close (tie.spec (λ c. search needs) (λ c. search needs)
     (λ c. omega (arith, whole (c .before .before .before .before), c .before .before .before .before .pre))
-    slice-aggregate
-    frame-at-requires
-    (λ c. search needs)
-    (λ c. search needs)
-    (λ c κs. search needs)
+    slice-aggregate frame-at-requires (λ c. search needs) (λ c. search needs) (λ c κs. search needs)
     (λ c κs. search needs)
     (λ c. fifo-cut _ (c .before .before .before .before .before .before .before .before .before .before .args .control) (c .before .before .before .before .frame-at .ensures) (c .before .before .enum-told .given .1) (rw (c .before .discard .ensures) at (c .run-out .ensures)))
-    (λ c κs. search needs)
-    (λ c. search needs)
-    use-up-requires
-    (λ c κs. search needs)
-    (λ c κs. search needs)
+    (λ c κs. search needs) (λ c. search needs) use-up-requires (λ c κs. search needs) (λ c κs. search needs)
     (λ c κs. search needs)
     (λ c. fifo-whole _ (c .before .before .before .before .before .before .before .before .before .before .before .before .before .args .control) (c .before .before .before .before .before .before .before .frame-at .ensures) (c .before .before .before .before .before .answer .given .1) (rw (c .before .before .before .is-stop .ensures) at (c .before .before .if1 .taken)) (rw (c .before .use-up .ensures) at (c .begin-frame .ensures)))
     (λ c. fifo-ended _ (c .before .before .before .before .before .before .before .before .before .before .before .before .before .args .control) (c .before .before .before .before .before .before .before .frame-at .ensures) (c .before .before .before .before .before .answer .given .1) (rw (c .before .before .before .is-stop .ensures) at (c .before .before .if1 .left)) (rw (c .before .discard2 .ensures) at (c .run-out2 .ensures))))

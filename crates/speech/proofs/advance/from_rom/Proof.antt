@@ -7,12 +7,7 @@ use Rattle.speech.proofs.advance.from_rom.Tie as tie
 
 pub from-rom-spec : {M : Type 1} → statement M
 from-rom-spec =
-    tie.close
-    (tie.spec
-    (λ c κs. search needs)
-    (λ c. search needs)
-    (λ c. search needs)
-    (λ c. search needs)
+    tie.close (tie.spec (λ c κs. search needs) (λ c. search needs) (λ c. search needs) (λ c. search needs)
     (λ c κs. search needs)
     (λ c. rom-cut _ _ _ (c .before .before .before .before .frame-at .ensures) (c .before .before .enum-told .given .1) (omega (arith, c .before .if1 .taken)) (c .run-out .ensures))
     (λ c κs. search needs)

@@ -13,9 +13,7 @@ returns-4 c =
 
 pub mode-at-spec : {M : Type 1} → statement M
 mode-at-spec =
-    tie.close
-    (tie.spec
-    (λ c κs. search needs)
+    tie.close (tie.spec (λ c κs. search needs)
     (λ c. rw (sym (c .before .natural-at .ensures .0) ∙ c .match .keys1))
     (λ c. rw (sym (c .before .natural-at .ensures .0) ∙ c .match .keys2))
     (λ c. rw (sym (c .before .natural-at .ensures .0) ∙ c .match .keys3))

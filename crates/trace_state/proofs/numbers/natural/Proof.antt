@@ -26,10 +26,6 @@ returns-3 c =
 
 pub natural-spec : {M : Type 1} → statement M
 natural-spec =
-    tie.close
-    (tie.spec
+    tie.close (tie.spec
     (λ c. (negative-is (c .before .args .z) (c .before .args .most) (simp (toZ-ofZ, c .before .fits .z) at (c .if1 .taken)), omega arith))
-    cast-n
-    (λ c. search needs)
-    returns-2
-    returns-3)
+    cast-n (λ c. search needs) returns-2 returns-3)

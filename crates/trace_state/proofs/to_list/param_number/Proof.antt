@@ -24,12 +24,5 @@ returns-3 c =
 
 pub param-number-spec : {M : Type 1} → statement M
 param-number-spec =
-    tie.close
-    (tie.spec
-    (λ c κs. search needs)
-    returns
-    (λ c κs. search needs)
-    returns-2
-    (λ c. search needs)
-    (λ c κs. search needs)
-    returns-3)
+    tie.close (tie.spec (λ c κs. search needs) returns (λ c κs. search needs) returns-2 (λ c. search needs)
+    (λ c κs. search needs) returns-3)

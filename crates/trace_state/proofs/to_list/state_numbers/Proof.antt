@@ -31,15 +31,6 @@ loop-again c =
 
 pub state-numbers-spec : {M : Type 1} → statement M
 state-numbers-spec =
-    tie.close
-    (tie.spec
-    Inv-loop
-    μ-loop
-    loop-holds
-    (λ c κs. search needs)
-    (λ c. search needs)
-    (λ c. search needs)
-    (λ c. search needs)
-    (λ c. search needs)
-    loop-again
+    tie.close (tie.spec Inv-loop μ-loop loop-holds (λ c κs. search needs) (λ c. search needs) (λ c. search needs)
+    (λ c. search needs) (λ c. search needs) loop-again
     (λ c. let v = c .before .loop .inv in fill-all _ (v .2) (omega (arith, v .1))))

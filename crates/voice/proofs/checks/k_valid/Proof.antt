@@ -6,9 +6,7 @@ use Rattle.voice.proofs.checks.k_valid.Tie as tie
 
 pub k-valid-spec : {M : Type 1} → statement M
 k-valid-spec =
-    tie.close
-    (tie.spec
-    (λ c κs. search needs)
+    tie.close (tie.spec (λ c κs. search needs)
     (λ c.
     let k = c .signed-word in
     rw (back (k .result) (k .ok), k .ensures)))

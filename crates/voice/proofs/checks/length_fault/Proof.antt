@@ -5,9 +5,5 @@ use Rattle.voice.proofs.checks.length_fault.Tie as tie
 
 pub length-fault-spec : {M : Type 1} → statement M
 length-fault-spec =
-    tie.close
-    (tie.spec
-    (λ c κs. search needs)
-    (λ c. search needs)
-    (λ c. search needs)
+    tie.close (tie.spec (λ c κs. search needs) (λ c. search needs) (λ c. search needs)
     (λ c. rw (← c .length-field .ensures)))

@@ -5,9 +5,5 @@ use Rattle.voice.proofs.checks.value_fault.Tie as tie
 
 pub value-fault-spec : {M : Type 1} → statement M
 value-fault-spec =
-    tie.close
-    (tie.spec
-    (λ c κs. search needs)
-    (λ c κs. search needs)
-    (λ c κs. search needs)
+    tie.close (tie.spec (λ c κs. search needs) (λ c κs. search needs) (λ c κs. search needs)
     (λ c. cc))

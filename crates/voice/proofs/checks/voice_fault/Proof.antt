@@ -10,9 +10,7 @@ use Rattle.voice.proofs.checks.voice_fault.Tie as tie
 
 pub voice-fault-spec : {M : Type 1} → statement M
 voice-fault-spec =
-    tie.close
-    (tie.spec
-    (λ c κs. search needs)
+    tie.close (tie.spec (λ c κs. search needs)
     (λ c. search (first-fault, applies))
     (λ c κs. search needs)
     (λ c. search (first-fault, applies, passes))

@@ -5,12 +5,7 @@ use Rattle.voice.proofs.layout.entries.Tie as tie
 
 pub entries-spec : {M : Type 1} → statement M
 entries-spec =
-    tie.close
-    (tie.spec
-    (λ c. search needs)
-    (λ c. search needs)
-    (λ c κs. search needs)
-    (λ c. search needs)
+    tie.close (tie.spec (λ c. search needs) (λ c. search needs) (λ c κs. search needs) (λ c. search needs)
     (λ c. search needs)
     (λ c. rw (c .before .enum-told2 .given .1) (c .pitches .ensures .0))
     (λ c. search needs))

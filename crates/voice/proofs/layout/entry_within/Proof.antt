@@ -7,12 +7,7 @@ use Rattle.voice.proofs.layout.entry_within.Tie as tie
 
 pub entry-within-spec : {M : Type 1} → statement M
 entry-within-spec =
-    tie.close
-    (tie.spec
-    (λ c κs. search needs)
-    (λ c. search needs)
-    (λ c. search needs)
-    (λ c. search needs)
+    tie.close (tie.spec (λ c κs. search needs) (λ c. search needs) (λ c. search needs) (λ c. search needs)
     (λ c κs.
     let s = c .before .before in
     omega (arith, before-count (s .args .pitch-bits) (s .args .table) (s .args .index) (s .pre .1)))

@@ -11,8 +11,5 @@ use Rattle.voice.proofs.layout.pitches.Tie as tie
 
 pub pitches-spec : {M : Type 1} → statement M
 pitches-spec =
-    tie.close
-    (tie.spec
-    (λ c. search needs)
-    (λ c. search needs)
+    tie.close (tie.spec (λ c. search needs) (λ c. search needs)
     (λ c. rw (shl-exact {a = 1} 1 (c .args .pitch-bits) 16 (lit< tt) (omega arith), one-mul) (refl, pitches-most (c .pre))))

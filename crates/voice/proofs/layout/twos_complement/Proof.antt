@@ -23,9 +23,7 @@ returns c = simp (read tt (low-part c), read tt (high-part c), read tt (differen
 
 pub twos-complement-spec : {M : Type 1} → statement M
 twos-complement-spec =
-    tie.close
-    (tie.spec
-    (λ c. search needs)
+    tie.close (tie.spec (λ c. search needs)
     (λ c. fits tt (low-part c))
     (λ c. search needs)
     (λ c. omega (arith, sign-part (c .args .sign) (c .args .n)))

@@ -7,8 +7,5 @@ use Rattle.voice.proofs.lookup.energy.Tie as tie
 
 pub energy-spec : {M : Type 1} → statement M
 energy-spec =
-    tie.close
-    (tie.spec
-    (λ c κs. search needs)
-    (λ c. search needs)
+    tie.close (tie.spec (λ c κs. search needs) (λ c. search needs)
     (λ c. word-read (omega arith) (c .entry-at .ensures)))

@@ -9,12 +9,9 @@ use Rattle.voice.proofs.lookup.k.Tie as tie
 
 pub k-spec : {M : Type 1} → statement M
 k-spec =
-    tie.close
-    (tie.spec
-    (λ c κs. search needs)
+    tie.close (tie.spec (λ c κs. search needs)
     (λ c. omega (arith, total-take-le kCounts (c .before .before .args .number)))
-    (λ c κs. search needs)
-    (λ c κs. search needs)
+    (λ c κs. search needs) (λ c κs. search needs)
     (λ c.
     let k = c .signed-word in
     rw (back (k .result) (k .ok), k .ensures, c .before .entry-at .ensures, c .before .before .k-begin .ensures)))

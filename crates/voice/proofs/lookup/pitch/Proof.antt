@@ -7,8 +7,5 @@ use Rattle.voice.proofs.lookup.pitch.Tie as tie
 
 pub pitch-spec : {M : Type 1} → statement M
 pitch-spec =
-    tie.close
-    (tie.spec
-    (λ c κs. search needs)
-    (λ c. search needs)
+    tie.close (tie.spec (λ c κs. search needs) (λ c. search needs)
     (λ c. word-read (omega arith) (c .entry-at .ensures)))

@@ -7,15 +7,8 @@ use Rattle.voice.proofs.lookup.pulse.Tie as tie
 
 pub pulse-spec : {M : Type 1} → statement M
 pulse-spec =
-    tie.close
-    (tie.spec
-    (λ c κs. search needs)
-    (λ c κs. search needs)
-    (λ c. search needs)
-    (λ c. search needs)
-    (λ c. search needs)
-    (λ c κs. search needs)
-    (λ c κs. search needs)
+    tie.close (tie.spec (λ c κs. search needs) (λ c κs. search needs) (λ c. search needs) (λ c. search needs)
+    (λ c. search needs) (λ c κs. search needs) (λ c κs. search needs)
     (λ c.
     let b = c .before .before .before in
     rw (back (c .signed-byte .result) (c .signed-byte .ok))

@@ -5,8 +5,4 @@ use Rattle.base.proofs.units.Frames.intervals.Tie as tie
 
 pub intervals-spec : {M : Type 1} → statement M
 intervals-spec =
-    tie.close
-    (tie.spec
-    (λ c. search needs)
-    (λ c. search needs)
-    (λ c. search needs))
+    tie.close (tie.spec (λ c. search needs) (λ c. search needs) (λ c. search needs))

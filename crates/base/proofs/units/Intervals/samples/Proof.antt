@@ -5,7 +5,4 @@ use Rattle.base.proofs.units.Intervals.samples.Tie as tie
 
 pub samples-spec : {M : Type 1} → statement M
 samples-spec =
-    tie.close
-    (tie.spec
-    (λ c. search needs)
-    (λ c. search needs))
+    tie.close (tie.spec (λ c. search needs) (λ c. search needs))

@@ -49,14 +49,5 @@ returns-5 c =
 
 pub command-fault-spec : {M : Type 1} → statement M
 command-fault-spec =
-    tie.close
-    (tie.spec
-    (λ c κs. search needs)
-    returns
-    (λ c κs. search needs)
-    returns-2
-    (λ c κs. search needs)
-    returns-3
-    beyond-requires
-    returns-4
-    returns-5)
+    tie.close (tie.spec (λ c κs. search needs) returns (λ c κs. search needs) returns-2 (λ c κs. search needs)
+    returns-3 beyond-requires returns-4 returns-5)

@@ -67,20 +67,14 @@ play-on-requires c κs =
 
 pub fill-spec : {M : Type 1} → statement M
 fill-spec =
-    tie.close
-    (tie.spec
-    Inv-loop
-    μ-loop
+    tie.close (tie.spec Inv-loop μ-loop
     (λ c. filled-none _ _ _ _ (c .before .before .pre))
     samples-left-requires
     (λ c κs. c .before .before .before .before .loop .inv .holds)
     (λ c. search (needs, c .before .before .before .before .before .before .before .before .before .before .good .1 .1 .1 .0 .1))
     (λ c. search needs)
     (λ c. search (needs, c .before .before .before .before .before .before .before .before .before .before .good .1 .1 .1 .0 .0))
-    (λ c. search needs)
-    loop-again
-    (λ c. search needs)
-    (λ c κs. search needs)
+    (λ c. search needs) loop-again (λ c. search needs) (λ c κs. search needs)
     (λ c. omega (arith, part c, c .before .before .before .before .before .before .before .before .good .1 .1 .1 .0 .0))
     (λ c. search (needs, c .before .before .before .before .before .before .before .before .good .1 .1 .1 .0 .1))
     (λ c. omega (arith, part c))
@@ -88,6 +82,5 @@ fill-spec =
     (λ c. omega (arith, part c))
     play-on-requires
     (λ c. omega (arith, part (c .before .before .before)))
-    loop-again-2
-    (λ c. search needs)
+    loop-again-2 (λ c. search needs)
     (λ c. filled-all _ _ _ (c .before .loop .inv) (omega arith)))

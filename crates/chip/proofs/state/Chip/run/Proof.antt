@@ -7,14 +7,11 @@ use Rattle.chip.proofs.state.Chip.run.Tie as tie
 
 pub run-spec : {M : Type 1} → statement M
 run-spec =
-    tie.close
-    (tie.spec
-    (λ c κs. search needs)
+    tie.close (tie.spec (λ c κs. search needs)
     (λ c.
     let a = c .before .before .before .before .args in
     run-refused (now (a .image)) (now (a .voice)) (a .self) (c .before .step-fault .ensures) (now (a .out)) (c .if1 .taken))
-    (λ c κs. search needs)
-    (λ c. search needs)
+    (λ c κs. search needs) (λ c. search needs)
     (λ c.
     let a = c .before .before .before .before .before .before .before .args in
     let f = c .before .sound-or-silence .ensures in

@@ -9,12 +9,7 @@ use Rattle.chip.proofs.state.Chip.sound_or_silence.Tie as tie
 
 pub sound-or-silence-spec : {M : Type 1} → statement M
 sound-or-silence-spec =
-    tie.close
-    (tie.spec
-    (λ c κs. search needs)
-    (λ c κs. search needs)
-    (λ c. search needs)
-    (λ c. search needs)
+    tie.close (tie.spec (λ c κs. search needs) (λ c κs. search needs) (λ c. search needs) (λ c. search needs)
     (λ c. search needs)
     (λ c.
     let s = c .before .before .before .before .before .before .before in

@@ -28,10 +28,7 @@ apply-requires c κs =
 
 pub take-step-spec : {M : Type 1} → statement M
 take-step-spec =
-    tie.close
-    (tie.spec
-    advance-requires
-    apply-requires
+    tie.close (tie.spec advance-requires apply-requires
     (λ c.
     let a = c .before .before .before .before .before .before .before .before .before .args in
     step-taken-is (now (a .image)) (now (a .voice)) (a .self) (c .before .before .before .before .advance .ensures) (c .before .before .apply .ensures) (search needs)))

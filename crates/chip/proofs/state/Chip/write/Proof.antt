@@ -22,11 +22,7 @@ accept-requires c κs =
 
 pub write-spec : {M : Type 1} → statement M
 write-spec =
-    tie.close
-    (tie.spec
-    (λ c κs. search needs)
-    (λ c κs. search needs)
+    tie.close (tie.spec (λ c κs. search needs) (λ c κs. search needs)
     (λ c. write-refused _ _ _ (fault-is (c .before)) (c .if1 .taken))
-    accept-requires
-    (λ c κs. search needs)
+    accept-requires (λ c κs. search needs)
     (λ c. write-taken _ _ _ (fault-is (c .before .before .before .before)) (c .before .before .before .if1 .left) (c .before .accept .ensures) (c .after-byte .ensures)))

@@ -5,8 +5,5 @@ use Rattle.control.proofs.state.Control.bus_byte.Tie as tie
 
 pub bus-byte-spec : {M : Type 1} → statement M
 bus-byte-spec =
-    tie.close
-    (tie.spec
-    (λ c κs. search needs)
-    (λ c. search needs)
+    tie.close (tie.spec (λ c κs. search needs) (λ c. search needs)
     (λ c. rw (c .before .if1 .left) (c .status .ensures)))

@@ -5,8 +5,6 @@ use Rattle.control.proofs.state.Port.acknowledge.Tie as tie
 
 pub acknowledge-spec : {M : Type 1} → statement M
 acknowledge-spec =
-    tie.close
-    (tie.spec
-    (λ c κs. search needs)
+    tie.close (tie.spec (λ c κs. search needs)
     (λ c. rw (c .before .if1 .taken) (c .drop-data .ensures))
     (λ c. rw (c .if1 .left)))

@@ -72,21 +72,9 @@ returns c = rw (c .renew .ensures) (filled-all _ _ _ (c .before .before .loop .i
 
 pub play-spec : {M : Type 1} → statement M
 play-spec =
-    tie.close
-    (tie.spec
-    Inv-loop
-    μ-loop
-    (λ c κs. search needs)
-    loop-holds
+    tie.close (tie.spec Inv-loop μ-loop (λ c κs. search needs) loop-holds
     (λ c κs. c .before .before .before .before .before .before .before .pre .1)
-    filtered-requires
-    (λ c. search needs)
-    (λ c. search needs)
+    filtered-requires (λ c. search needs) (λ c. search needs)
     (λ c κs. omega (arith, c .before .before .before .before .before .before .loop .inv .holds .noise-high))
     (λ c κs. c .before .before .before .before .before .before .before .before .loop .inv .holds .pulse)
-    (λ c. search needs)
-    (λ c. search needs)
-    loop-again
-    (λ c κs. search needs)
-    (λ c. search needs)
-    returns)
+    (λ c. search needs) (λ c. search needs) loop-again (λ c κs. search needs) (λ c. search needs) returns)

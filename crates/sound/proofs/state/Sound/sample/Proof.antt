@@ -50,12 +50,7 @@ returns c =
 
 pub sample-spec : {M : Type 1} → statement M
 sample-spec =
-    tie.close
-    (tie.spec
-    (λ c κs. search needs)
-    (λ c κs. search needs)
-    filtered-requires
+    tie.close (tie.spec (λ c κs. search needs) (λ c κs. search needs) filtered-requires
     (λ c κs. omega (arith, ok (c .before .before .before .before .before .before .before .before .before .before) .noise-high))
     (λ c κs. ok (c .before .before .before .before .before .before .before .before .before .before .before .before) .pulse)
-    (λ c κs. search needs)
-    returns)
+    (λ c κs. search needs) returns)
