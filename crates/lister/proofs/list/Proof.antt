@@ -1,14 +1,13 @@
 -- `lister::list` is safe. Assumes nothing.
 use borrow.Author.Needs.{needs}
 use mathlib.Core.Path.{sym}
-use native.Mathlib.Omega.{arith}
 use lib.ListN.{length-append}
 use lib.Seq.{length-take-le}
 use Rattle.lister.proofs.list.Statement.{statement}
 use Rattle.lister.proofs.list.Tie as tie
 
 array-share-prefix-image : tie.Need-array-share-prefix-image
-array-share-prefix-image c = let r = c .before .before .read-all in simp length-append (omega (arith, r .kept .0, r .ensures))
+array-share-prefix-image c = let r = c .before .before .read-all in simp length-append (search (needs, r .kept .0, r .ensures))
 
 pub list-spec : {M : Type 1} → statement M
 list-spec =

@@ -1,7 +1,6 @@
 -- `lister::write_lines` is safe and ends: each turn lists at least a line. Assumes nothing.
 use borrow.Author.Needs.{needs}
 use mathlib.Core.Path.{_≡_, sym}
-use native.Mathlib.Omega.{arith}
 use lib.ListN.{length}
 use lib.Seq.{length-take-le}
 use Rattle.lister.proofs.write_lines.Statement.{statement}
@@ -19,5 +18,5 @@ write-lines-spec =
     (λ c. search needs)
     (λ c. sym (length-take-le _ _ (search needs)))
     (λ c κs. search needs) (λ c. search needs)
-    (λ c. omega (arith, c .before .before .before .before .fill .ensures .some (search needs)))
+    (λ c. search (needs, c .before .before .before .before .fill .ensures .some (search needs)))
     (λ c. search needs) (λ c. search needs))

@@ -1,7 +1,6 @@
 -- `lister::write_listing` is safe. Assumes nothing.
 use borrow.Author.Needs.{needs}
 use mathlib.Core.Path.{sym}
-use native.Mathlib.Omega.{arith}
 use lib.ListN.{length-take}
 use lib.Seq.{length-take-le}
 use Rattle.lister.specs.Text.{contents}
@@ -10,7 +9,7 @@ use Rattle.lister.proofs.write_listing.Tie as tie
 
 array-share-prefix-bytes : tie.Need-array-share-prefix-bytes
 unfolding contents
-array-share-prefix-bytes c = rw (c .before .size .ensures, length-take) (omega arith)
+array-share-prefix-bytes c = rw (c .before .size .ensures, length-take) (search needs)
 
 pub write-listing-spec : {M : Type 1} → statement M
 write-listing-spec =

@@ -2,7 +2,6 @@
 use borrow.Author.Needs.{needs}
 use mathlib.Core.Path.{_≡_, sym, _∙_}
 use Prim.Native.Nat.{_+_, _-_, _≤_}
-use native.Mathlib.Omega.{arith}
 use lib.ListN.{length}
 use lib.Seq.{length-take-le}
 use Rattle.base.specs.Bytes.{byteAt}
@@ -27,7 +26,7 @@ ends c =
     let r = c .before .before .before .before .before .before .before .before .before .before in
     let l = r .before .before .before .before .loop in
     let s = r .before .before .before .before .before .before .before .before .args .script .now in
-    let h : l .at + 1 ≤ length s = omega (arith, r .before .before .before .loop-test .taken) in
+    let h : l .at + 1 ≤ length s = search (needs, r .before .before .before .loop-test .taken) in
     whole-next (length s) (l .at + 1) _ (bodyOf (byteAt s (l .at)) (le32 s (l .at + 1))) h
     (sym (r .before .before .record-at .ensures) ∙ r .«record» .given .1)
 
@@ -36,7 +35,7 @@ play-all-spec =
     tie.close (tie.spec Inv-loop μ-loop (λ c κs. search needs) (λ c. search needs) (λ c κs. search needs)
     (λ c. search needs) (λ c. search needs) (λ c κs. search needs) (λ c. search needs) (λ c. search needs)
     (λ c κs. search needs) (λ c κs. search needs) (λ c κs. search needs) (λ c. search needs) (λ c. search needs)
-    (λ c. omega (arith, ends c))
+    (λ c. search (needs, ends c))
     (λ c. (search needs, ends c .1, search needs))
     (λ c. search needs)
     (λ c. sym (length-take-le _ _ (search needs)))

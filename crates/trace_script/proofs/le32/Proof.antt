@@ -1,6 +1,5 @@
 -- `trace_script::le32` meets its contract. Assumes nothing.
 use borrow.Author.Needs.{needs}
-use native.Mathlib.Omega.{arith}
 use Rattle.trace_script.specs.Script.{le32}
 use Rattle.trace_script.proofs.le32.Statement.{statement}
 use Rattle.trace_script.proofs.le32.Tie as tie
@@ -12,4 +11,4 @@ le32-spec =
     (λ c. search needs) (λ c. search needs) (λ c. search needs) (λ c. search needs) (λ c κs. search needs)
     (λ c. search needs) (λ c. search needs) (λ c. search needs) (λ c. search needs) (λ c κs. search needs)
     (λ c. search needs) (λ c. search needs) (λ c. search needs)
-    (λ c. let b = c .before .before in (rw (b .before .byte-at .ensures, b .byte-at2 .ensures, c .before .byte-at3 .ensures, c .byte-at4 .ensures), omega arith)))
+    (λ c. let b = c .before .before in (rw (b .before .byte-at .ensures, b .byte-at2 .ensures, c .before .byte-at3 .ensures, c .byte-at4 .ensures), search needs)))

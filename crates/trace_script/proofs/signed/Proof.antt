@@ -3,7 +3,6 @@ use borrow.Author.Needs.{needs}
 use borrow.Author.Tests.{lt-ltb, le-ltb}
 use mathlib.Core.Path.{_≡_, ap}
 use Prim.Native.Nat.{suc, _-_, _^_, _<_}
-use native.Mathlib.Omega.{arith}
 use lib.IntN.{pos, negsuc}
 use mir.Syntax.{w64}
 use mir.Val.{toZ}
@@ -14,7 +13,7 @@ use Rattle.trace_script.proofs.signed.Tie as tie
 
 module _ (c : tie.Else1) where
   small : 18446744073709551615 - c .before .args .n < 2 ^ 63
-  small = omega arith
+  small = search needs
 
   kept : toZ w64 (18446744073709551615 - c .before .args .n) ≡ pos (18446744073709551615 - c .before .args .n)
   kept = back-at w64 (pos (18446744073709551615 - c .before .args .n)) small
@@ -22,7 +21,7 @@ module _ (c : tie.Else1) where
 returns-2 : tie.Need-returns-2
 returns-2 c =
     let n = c .before .args .n in
-    let e : 18446744073709551615 - n ≡ 2 ^ 64 - suc n = omega arith in
+    let e : 18446744073709551615 - n ≡ 2 ^ 64 - suc n = search needs in
     rw (kept c, minus-one-less (18446744073709551615 - n), back-at w64 (negsuc (18446744073709551615 - n)) (small c), le-ltb n (2 ^ 63) (c .if1 .left)) (ap negsuc e)
 
 pub signed-spec : {M : Type 1} → statement M

@@ -3,7 +3,6 @@
 use borrow.Author.Needs.{needs}
 use mathlib.Core.Path.{refl}
 use Prim.Native.Nat.{_-_}
-use native.Mathlib.Omega.{arith}
 use lib.ListN.{length}
 use denote.Ref.{now}
 use Rattle.export.proofs.Turns.{Turning, turning-none, turning-more, turning-all}
@@ -21,10 +20,10 @@ loop-again c =
     let a = c .before .before .before .before .before .before .before .before .args in
     let l = c .before .before .before .before .loop in
     let t = c .before .turn .ensures in
-    turning-more (now (a .image)) (now (a .voice)) (now (a .bytes)) _ _ (l .inv) _ (omega arith) refl (t .0) (t .1)
+    turning-more (now (a .image)) (now (a .voice)) (now (a .bytes)) _ _ (l .inv) _ (search needs) refl (t .0) (t .1)
 
 returns : tie.Need-returns Inv-loop μ-loop
-returns c = turning-all _ _ _ _ _ (c .before .loop .inv) (omega arith)
+returns c = turning-all _ _ _ _ _ (c .before .loop .inv) (search needs)
 
 pub feed-spec : {M : Type 1} → statement M
 feed-spec =
@@ -34,5 +33,5 @@ feed-spec =
     (λ c. search (needs, c .before .before .before .before .before .good .1 .1 .1 .1 .0 .0))
     (λ c. search (needs, c .before .before .before .before .before .good .1 .1 .1 .1 .0 .1))
     (λ c. search needs) (λ c. search needs)
-    (λ c. omega (arith, c .before .loop .inv .size, c .before .loop .inv .within))
+    (λ c. search (needs, c .before .loop .inv .size, c .before .loop .inv .within))
     (λ c κs. search needs) (λ c. search needs) loop-again (λ c. search needs) returns)

@@ -3,7 +3,6 @@
 use borrow.Author.Needs.{needs}
 use mathlib.Core.Path.{_≡_, refl, _∙_}
 use Prim.Native.Nat.{_-_}
-use native.Mathlib.Omega.{arith}
 use lib.ListN.{length, drop}
 use denote.Ref.{now}
 use Rattle.export.specs.Giving.{given}
@@ -22,21 +21,21 @@ returns : tie.Need-returns Inv-loop μ-loop
 returns c =
     let l = c .before .before .before .before .before .loop in
     let a = c .before .before .before .before .before .before .before .before .args in
-    given-refused (now (a .image)) (l .chip) (now (a .bytes)) (l .next) (omega arith) (c .before .before .write .ensures) (c .if1 .taken)
+    given-refused (now (a .image)) (l .chip) (now (a .bytes)) (l .next) (search needs) (c .before .before .write .ensures) (c .if1 .taken)
     ∙ l .inv
 
 loop-again : tie.Need-loop-again Inv-loop μ-loop
 loop-again c =
     let l = c .before .before .before .before .before .loop in
     let a = c .before .before .before .before .before .before .before .before .args in
-    given-more (now (a .image)) (l .chip) (now (a .bytes)) (l .next) (omega arith) (c .before .before .write .ensures) (c .if1 .left)
+    given-more (now (a .image)) (l .chip) (now (a .bytes)) (l .next) (search needs) (c .before .before .write .ensures) (c .if1 .left)
     ∙ l .inv
 
 returns-2 : tie.Need-returns-2 Inv-loop μ-loop
 returns-2 c =
     let l = c .before .loop in
     let a = c .before .before .before .before .args in
-    given-none (now (a .image)) (l .chip) (now (a .bytes)) (l .next) (omega arith) ∙ l .inv
+    given-none (now (a .image)) (l .chip) (now (a .bytes)) (l .next) (search needs) ∙ l .inv
 
 pub give-spec : {M : Type 1} → statement M
 give-spec =

@@ -2,7 +2,6 @@
 -- Assumes nothing.
 use borrow.Author.Needs.{needs}
 use Prim.Native.Nat.{_-_}
-use native.Mathlib.Omega.{arith}
 use lib.ListN.{length}
 use denote.Ref.{now}
 use Rattle.base.proofs.Steps.{Filled, filled-none, filled-more, filled-all}
@@ -22,10 +21,10 @@ loop-again : tie.Need-loop-again Inv-loop μ-loop
 loop-again c =
     let a = c .before .before .before .before .before .before .before .args in
     let l = c .before .before .before .before .loop in
-    filled-more _ _ _ (l .inv) (omega arith) (step-is (now (a .image)) (now (a .voice)) (l .chip) (c .before .before .step .ensures .0) (search needs)) tt
+    filled-more _ _ _ (l .inv) (search needs) (step-is (now (a .image)) (now (a .voice)) (l .chip) (c .before .before .step .ensures .0) (search needs)) tt
 
 returns : tie.Need-returns Inv-loop μ-loop
-returns c = filled-all _ _ _ (c .before .loop .inv) (omega arith) .1
+returns c = filled-all _ _ _ (c .before .loop .inv) (search needs) .1
 
 pub step-each-spec : {M : Type 1} → statement M
 step-each-spec =

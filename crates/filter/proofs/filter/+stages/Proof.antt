@@ -3,7 +3,6 @@
 use borrow.Author.Needs.{needs}
 use mathlib.Core.Path.{sym, ap, _∙_}
 use Prim.Native.Nat.{ℕ, _-_, _<_}
-use native.Mathlib.Omega.{arith}
 use borrow.Fn.Kinds.{In}
 use borrow.Fn.PlainCycle.{Measures, is, falls, and}
 use denote.Ref.{now}
@@ -34,7 +33,7 @@ module _ (t : ℕ) where
       let a = c .before .args in
       let p = c .before .pre .1 in
       let e = c .if1 .taken in
-      let z = lowest-none (now (a .k)) (now (a .memory)) (p .0 .size ∙ sym (p .1 .size)) (a .above) (omega (arith, p .1 .size)) in
+      let z = lowest-none (now (a .k)) (now (a .memory)) (p .0 .size ∙ sym (p .1 .size)) (a .above) (search (needs, p .1 .size)) in
       rw (read tt (p .2)) (rw e, z ∙ ap (lowestMemory (now (a .k)) (now (a .memory)) (a .above)) (sym e))
 
   stages-requires : stages-lts.Need-stages-requires (stage-reads.Asked, stage-reads.Learnt, stages-below t, stages.Post) (stages-at t) stages.Post
@@ -43,12 +42,12 @@ module _ (t : ℕ) where
       let p = s .pre .1 in
       let r = c .before .stage in
       let f : Between 8192 8191 (r .result) = rw (r .ensures .0) (saturated-range _) in (
-        omega arith,
+        search needs,
         (
           p .0,
           rw (rw (read tt (p .2)) at (r .ensures .1)) (stage-range (now (s .args .k)) (s .args .above) (s .args .left - 1) (p .1)),
           passed tt f,
-          omega arith,
+          search needs,
         ),
       )
 
@@ -60,7 +59,7 @@ module _ (t : ℕ) where
       let r = c .before .before .stage in
       let q = c .stages in
       let z =
-      lowest-more (now (a .k)) (now (a .memory)) (p .0 .size ∙ sym (p .1 .size)) (a .above) (a .left - 1) (omega (arith, p .1 .size)) (a .left) (omega arith)
+      lowest-more (now (a .k)) (now (a .memory)) (p .0 .size ∙ sym (p .1 .size)) (a .above) (a .left - 1) (search (needs, p .1 .size)) (a .left) (search needs)
       (back (r .result) (r .ok) ∙ (rw (read tt (p .2)) at (r .ensures .0))) (rw (read tt (p .2)) at (r .ensures .1)) in
       (back (q .result) (q .ok) ∙ q .ensures .0 ∙ z .0, q .ensures .1 ∙ z .1)
 
@@ -71,6 +70,6 @@ pub +stages-spec : {M : Type 1} → statement M
     (λ c. search needs)
     (returns t)
     (λ c. search needs)
-    (λ c κs. let p = c .before .before .pre .1 in (p .0, p .1, passed tt (p .2), omega arith))
+    (λ c κs. let p = c .before .before .pre .1 in (p .0, p .1, passed tt (p .2), search needs))
     (stages-requires t)
     (returns-2 t))

@@ -4,7 +4,6 @@ use mathlib.Core.Path.{_≡_, sym, _∙_}
 use mathlib.Core.Bool.{true, false, not, cond}
 use mathlib.Core.List.{[], _∷_}
 use Prim.Native.Nat.{ℕ, _+_, _-_, _/_, _≤_, _<_}
-use native.Mathlib.Omega.{arith}
 use borrow.Author.Tests.{not-false, not-true}
 use lib.Dec.{T}
 use lib.IntN.{ℤ, pos, negsuc, natAbs, _+ℤ_}
@@ -25,11 +24,11 @@ abbrev raised : ℤ → ℤ
 raised z = z +ℤ pos sumLimit
 
 raised-range : (z : ℤ) → Between sumLimit (sumLimit - 1) z → Between 0 16777215 (raised z)
-raised-range z h = let s = parts-add z (pos sumLimit) in ordered _ (omega (arith, h, s)) (omega (arith, h, s))
+raised-range z h = let s = parts-add z (pos sumLimit) in ordered _ (search (needs, h, s)) (search (needs, h, s))
 
 not-negative : {p : ℕ} (s : ℤ) → Between 0 p s → T (nonNeg s) × (natAbs s ≤ p)
 not-negative (pos n) h = (tt, h .high)
-not-negative (negsuc n) h = absurd (omega (arith, h .low))
+not-negative (negsuc n) h = absurd (search (needs, h .low))
 
 raised-small : (z : ℤ) → Between sumLimit (sumLimit - 1) z → T (nonNeg (raised z)) × (natAbs (raised z) ≤ 16777215)
 raised-small z h = not-negative (raised z) (raised-range z h)
@@ -37,8 +36,8 @@ raised-small z h = not-negative (raised z) (raised-range z h)
 below-zero : (n : ℕ) → Between sumLimit (sumLimit - 1) (negsuc n) → natAbs (raised (negsuc n)) / sumLimit ≡ 0
 below-zero n h =
     let s = parts-add (negsuc n) (pos sumLimit) in
-    let r : Between 0 8388607 (raised (negsuc n)) = ordered _ (omega (arith, h, s)) (omega (arith, h, s)) in
-    omega (arith, not-negative (raised (negsuc n)) r .1)
+    let r : Between 0 8388607 (raised (negsuc n)) = ordered _ (search (needs, h, s)) (search (needs, h, s)) in
+    search (needs, not-negative (raised (negsuc n)) r .1)
 
 -- ---- what is saturated
 
@@ -54,7 +53,7 @@ end-saturated : (z : ℤ) → Between sumLimit (sumLimit - 1) z → inside memor
     → getD (memoryMin ∷ memoryMax ∷ []) (natAbs (raised z) / sumLimit) (pos 0) ≡ saturated z
 unfolding clamped
 end-saturated (pos n) h e =
-    let one : (n + sumLimit) / sumLimit ≡ 1 = omega (arith, h .high) in
+    let one : (n + sumLimit) / sumLimit ≡ 1 = search (needs, h .high) in
     rw one (sym (cond-true (ltZ memoryMax (pos n)) memoryMax (pos n) (not-false _ e)))
 end-saturated (negsuc n) h e =
     rw (below-zero n h) (sym (cond-true (ltZ (negsuc n) memoryMin) memoryMin (negsuc n) (not-false _ (sym (and-true _) ∙ e))))
@@ -75,14 +74,14 @@ returns-2 c =
     (rw (end-saturated (s .args .z) h (sym i ∙ c .before .if1 .left)) (read tt (saturated-range (s .args .z))))
 
 index-small : (c : tie.Else1) → natAbs (raised (c .before .before .args .z)) / sumLimit < 2
-index-small c = omega (arith, raised-small (c .before .before .args .z) (c .before .before .pre) .1)
+index-small c = search (needs, raised-small (c .before .before .args .z) (c .before .before .pre) .1)
 
 pub saturate-spec : {M : Type 1} → statement M
 saturate-spec =
     tie.close (tie.spec (λ c κs. search needs) returns
     (λ c. let h = c .before .before .pre in simp (read tt h) (fits tt (raised-range _ h)))
-    (λ c. let h = c .before .before .pre in let r = raised-small (c .before .before .args .z) h in simp (read tt h, read tt (raised-range _ h)) (r .0, omega (arith, r .1)))
+    (λ c. let h = c .before .before .pre in let r = raised-small (c .before .before .args .z) h in simp (read tt h, read tt (raised-range _ h)) (r .0, search (needs, r .1)))
     (λ c. search needs) (λ c. search needs)
-    (λ c. let h = c .before .before .pre in simp (read tt h, read tt (raised-range _ h)) (omega (arith, index-small c)))
+    (λ c. let h = c .before .before .pre in simp (read tt h, read tt (raised-range _ h)) (search (needs, index-small c)))
     (λ c. let h = c .before .before .pre in simp (read tt h, read tt (raised-range _ h)) (index-small c))
     returns-2)

@@ -2,7 +2,6 @@
 use borrow.Author.Needs.{needs}
 use mathlib.Core.Path.{_≡_, sym}
 use native.Mathlib.Numerals.{add-one}
-use native.Mathlib.Omega.{arith}
 use denote.Ref.{now}
 use lib.Seq.{set-out}
 use Rattle.base.specs.Range.{Between}
@@ -41,7 +40,7 @@ returns-2 : tie.Need-returns-2
 returns-2 c =
     let s = c .before .before .before .before in
     let a = c .before in
-    (rw (back (a .forward-of .result) (a .forward-of .ok), forward-is a), sym (set-out (now (s .args .memory)) _ _ (omega (arith, s .pre .1 .size))))
+    (rw (back (a .forward-of .result) (a .forward-of .ok), forward-is a), sym (set-out (now (s .args .memory)) _ _ (search (needs, s .pre .1 .size))))
 
 pub stage-spec : {M : Type 1} → statement M
 stage-spec =

@@ -6,7 +6,6 @@ use mathlib.Core.Bool.{Bool, true, false, _&&_}
 use mathlib.Core.List.{List}
 use Prim.Native.Nat.{ℕ, suc, _-_, _≤_}
 use native.Mathlib.Numerals.{add-one}
-use native.Mathlib.Omega.{arith}
 use lib.Dec.{eqb, lit≤}
 use lib.IntN.{ℤ, pos}
 use lib.ListN.{length, getD, drop}
@@ -40,10 +39,10 @@ loop-again c =
     let n : length (a .t1) ≡ 10 = search needs in
     let is = simp (toZ-ofZ, s .fits .low, s .fits .high, z) at (c .is-inside .ensures) in
     let left = allInside (a .low) (a .high) (drop (suc (l .i)) (a .t1)) in (
-      omega arith,
+      search needs,
       simp (toZ-ofZ, s .fits .low, s .fits .high, add-one)
           ((simp (toZ-ofZ, s .fits .low, s .fits .high) at (l .inv .1))
-          ∙ ap (λ (zs : List ℤ). l .all && allInside (a .low) (a .high) zs) (drop-cons (a .t1) (l .i) (pos 0) (omega arith))
+          ∙ ap (λ (zs : List ℤ). l .all && allInside (a .low) (a .high) zs) (drop-cons (a .t1) (l .i) (pos 0) (search needs))
           ∙ ap (λ (b : Bool). l .all && (b && left)) (sym is)
           ∙ and-assoc (l .all) (c .is-inside .result) left),
     )
@@ -54,7 +53,7 @@ returns c =
     let l = c .before .loop in
     let a = s .args in
     let n : length (a .t1) ≡ 10 = search needs in
-    let e : l .i ≡ length (a .t1) = omega arith in
+    let e : l .i ≡ length (a .t1) = search needs in
     sym
     (ap (λ (k : ℕ). eqb k 10 && allInside (a .low) (a .high) (a .t1)) n
     ∙ (simp (toZ-ofZ, s .fits .low, s .fits .high) at (l .inv .1))

@@ -3,7 +3,6 @@ use borrow.Author.Needs.{needs}
 use mathlib.Core.Path.{_≡_, _∙_}
 use Prim.Native.Nat.{_-_, _≤_}
 use native.Mathlib.Numerals.{add-one}
-use native.Mathlib.Omega.{arith}
 use lib.ListN.{length, take, drop, length-drop}
 use lib.Seq.{take-suc, getD-drop}
 use Rattle.lister.specs.Text.{contents, appended}
@@ -28,8 +27,8 @@ loop-again c =
     let l = c .before .before .before .loop in
     let a = c .before .before .before .before .args in
     let n : length (a .t2) ≡ 13 = l .inv .0 .1 in (
-      (omega arith, n),
-      rw (add-one, take-suc (drop 3 (a .t2)) (l .i) 0 (simp length-drop (omega arith)), indexes-more, getD-drop)
+      (search needs, n),
+      rw (add-one, take-suc (drop 3 (a .t2)) (l .i) 0 (simp length-drop (search needs)), indexes-more, getD-drop)
           (c .with-number .ensures
           ∙ appended-twice _ _ _ _ (c .before .with-byte .ensures)
           ∙ appended-twice _ _ _ _ (l .inv .1)),
@@ -37,7 +36,7 @@ loop-again c =
 
 returns : tie.Need-returns Inv-loop μ-loop
 returns c =
-    let e : c .before .loop .i ≡ c .before .before .args .count = omega arith in
+    let e : c .before .loop .i ≡ c .before .before .args .count = search needs in
     rw e at (c .before .loop .inv .1)
 
 pub with-indexes-spec : {M : Type 1} → statement M

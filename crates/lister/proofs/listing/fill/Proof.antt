@@ -1,7 +1,6 @@
 -- `lister::listing::fill` meets its contract. Assumes nothing.
 use borrow.Author.Needs.{needs}
 use mathlib.Core.Path.{_≡_, _∙_}
-use native.Mathlib.Omega.{arith}
 use lib.ListN.{length}
 use Rattle.lister.proofs.Filling.{Filling, filling-none, filling-more}
 use Rattle.lister.proofs.listing.fill.Statement.{statement}
@@ -14,7 +13,7 @@ abbrev μ-loop : tie.MeasureT-loop
 μ-loop image bit lines out₀ used₀ at₀ left₀ out used at left = left
 
 returns : tie.Need-returns Inv-loop μ-loop
-returns c = let f = c .before .before .loop .inv .0 in record { within = f .within; some = λ h. omega arith; listed = f .listed }
+returns c = let f = c .before .before .loop .inv .0 in record { within = f .within; some = λ h. search needs; listed = f .listed }
 
 loop-again : tie.Need-loop-again Inv-loop μ-loop
 loop-again c =
@@ -26,8 +25,8 @@ loop-again c =
 returns-2 : tie.Need-returns-2 Inv-loop μ-loop
 returns-2 c =
     let l = c .before .loop in
-    let z : l .left ≡ 0 = omega arith in
-    record { within = l .inv .0 .within; some = λ h. omega arith; listed = rw z at (l .inv .0 .listed) }
+    let z : l .left ≡ 0 = search needs in
+    record { within = l .inv .0 .within; some = λ h. search needs; listed = rw z at (l .inv .0 .listed) }
 
 pub fill-spec : {M : Type 1} → statement M
 fill-spec =

@@ -1,7 +1,6 @@
 -- `lister::listing::first_line` meets its contract. Assumes nothing.
 use borrow.Author.Needs.{needs}
 use mathlib.Core.Path.{refl}
-use native.Mathlib.Omega.{arith}
 use Rattle.lister.proofs.ListingLaws.{listing-long, listing-refused, listing-phrase, first-fits, alone}
 use Rattle.lister.proofs.listing.first_line.Statement.{statement}
 use Rattle.lister.proofs.listing.first_line.Tie as tie
@@ -17,7 +16,7 @@ first-line-spec =
     (λ c κs. search needs) (λ c κs. search needs) (λ c κs. search needs)
     (λ c.
     let w = c .before .before .before .before .before in
-    omega (arith, first-fits _ _ (w .walk .result) (w .walk .ensures) (c .before .before .before .before .if2 .left)))
+    search (needs, first-fits _ _ (w .walk .result) (w .walk .ensures) (c .before .before .before .before .if2 .left)))
     (λ c.
     let w = c .before .before .before .before .before in
     listing-phrase _ _ (w .before .if1 .left) (w .walk .result) (w .walk .ensures) (c .before .before .before .before .if2 .left)

@@ -3,7 +3,6 @@ use borrow.Author.Needs.{needs}
 use mathlib.Core.Path.{_≡_, ap, _∙_}
 use mathlib.Core.List.{_++_}
 use Prim.Native.Nat.{_-_, _+_, _≤_}
-use native.Mathlib.Omega.{arith}
 use lib.ListN.{length, take, length-take}
 use Rattle.lister.specs.Text.{contents}
 use Rattle.lister.proofs.Copies.{Copied, copied-none, copied-more, take-taken}
@@ -21,16 +20,16 @@ unfolding contents
 loop-holds c =
     let s = c .before .before .before in
     let b : length (s .args .t .bytes) ≡ 80 = search needs in
-    let n : c .before .size .result ≤ 80 = rw (c .before .size .ensures, length-take) (omega arith) in
-    (copied-none _ _ _ _ (omega arith) (omega (arith, s .pre)), n)
+    let n : c .before .size .result ≤ 80 = rw (c .before .size .ensures, length-take) (search needs) in
+    (copied-none _ _ _ _ (search needs) (search (needs, s .pre)), n)
 
 returns : tie.Need-returns Inv-loop μ-loop
 unfolding contents
 returns c =
     let l = c .before .loop in
-    let e : l .i ≡ c .before .before .before .size .result = omega (arith, l .inv .0 .passed) in
+    let e : l .i ≡ c .before .before .before .size .result = search (needs, l .inv .0 .passed) in
     let a = c .before .before .before .before .before .args in (
-      omega arith,
+      search needs,
       (rw e at (l .inv .0 .copied))
           ∙ ap (λ m. take (a .at) (a .out .now) ++ m)
           (ap (λ k. take k (a .t .bytes)) (c .before .before .before .size .ensures) ∙ take-taken (a .t .length) (a .t .bytes)),

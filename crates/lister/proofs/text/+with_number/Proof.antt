@@ -2,7 +2,6 @@
 use borrow.Author.Needs.{needs}
 use mathlib.Core.Path.{_∙_}
 use Prim.Native.Nat.{ℕ, _<_}
-use native.Mathlib.Omega.{arith}
 use borrow.Fn.Kinds.{In}
 use borrow.Fn.PlainCycle.{Measures, is, falls, and}
 use Rattle.lister.proofs.Decimals.{decimal-one, decimal-more}
@@ -34,10 +33,10 @@ pub +with-number-spec : {M : Type 1} → statement M
 )
     (with-number-at t)
     with-number.Post
-    (λ c. omega arith)
-    (λ c. omega arith)
+    (λ c. search needs)
+    (λ c. search needs)
     (λ c κs. search needs)
-    (λ c κs. (omega arith, tt))
+    (λ c κs. (search needs, tt))
     (λ c κs. search needs)
     (λ c. rw (decimal-one (c .before .before .args .n) (c .before .if1 .taken)) (c .with-byte .ensures))
     (λ c.

@@ -3,7 +3,6 @@ use borrow.Author.Needs.{needs}
 use mathlib.Core.Path.{_≡_, _∙_}
 use Prim.Native.Nat.{_-_, _≤_}
 use native.Mathlib.Numerals.{add-one}
-use native.Mathlib.Omega.{arith}
 use lib.ListN.{length, take}
 use lib.Seq.{take-suc, take-all}
 use Rattle.lister.specs.Text.{contents, appended}
@@ -21,15 +20,15 @@ loop-again : tie.Need-loop-again Inv-loop μ-loop
 loop-again c =
     let l = c .before .before .before .loop in
     let a = c .before .before .before .before .before .args in (
-      omega arith,
-      rw (add-one, take-suc (a .word .now) (l .i) 0 (omega arith))
+      search needs,
+      rw (add-one, take-suc (a .word .now) (l .i) 0 (search needs))
           (c .with-byte .ensures ∙ appended-twice (a .t) (l .r) _ _ (l .inv .1)),
     )
 
 returns : tie.Need-returns Inv-loop μ-loop
 returns c =
     let a = c .before .before .before .args in
-    rw (take-all (c .before .loop .i) (a .word .now) (omega arith)) at (c .before .loop .inv .1)
+    rw (take-all (c .before .loop .i) (a .word .now) (search needs)) at (c .before .loop .inv .1)
 
 pub with-word-spec : {M : Type 1} → statement M
 with-word-spec =

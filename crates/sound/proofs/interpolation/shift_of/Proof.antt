@@ -4,7 +4,6 @@ use mathlib.Core.Path.{_≡_}
 use mathlib.Core.Bool.{Bool, true, false, _&&_}
 use mathlib.Core.List.{List, [], _∷_}
 use Prim.Native.Nat.{ℕ, zero, suc, _^_, _<_}
-use native.Mathlib.Omega.{arith}
 use lib.Dec.{T, ltb, eqb, ltb→lt, eqb→eq}
 use lib.Ieee.Fits.{and-l, and-r}
 use lib.ListN.{length, getD}
@@ -19,12 +18,12 @@ agree (s ∷ ss) [] = false
 agree (s ∷ ss) (d ∷ ds) = (ltb s 4 && eqb (2 ^ s) d) && agree ss ds
 
 entry : (ss ds : List ℕ) → T (agree ss ds) → (i : ℕ) → i < length ss → (getD ss i 0 < 4) × (2 ^ getD ss i 0 ≡ getD ds i 1)
-entry [] ds t i h = absurd (omega arith)
+entry [] ds t i h = absurd (search needs)
 entry (s ∷ ss) [] t i h = absurd t
 entry (s ∷ ss) (d ∷ ds) t zero h =
     let u = and-l (ltb s 4 && eqb (2 ^ s) d) (agree ss ds) t in
     (ltb→lt s 4 (and-l (ltb s 4) (eqb (2 ^ s) d) u), eqb→eq (2 ^ s) d (and-r (ltb s 4) (eqb (2 ^ s) d) u))
-entry (s ∷ ss) (d ∷ ds) t (suc i) h = entry ss ds (and-r (ltb s 4 && eqb (2 ^ s) d) (agree ss ds) t) i (omega arith)
+entry (s ∷ ss) (d ∷ ds) t (suc i) h = entry ss ds (and-r (ltb s 4 && eqb (2 ^ s) d) (agree ss ds) t) i (search needs)
 
 returns : tie.Need-returns
 returns c = rw (c .count .ensures) (entry (3 ∷ 3 ∷ 3 ∷ 2 ∷ 2 ∷ 1 ∷ 1 ∷ 0 ∷ []) divisors tt (c .before .args .interval .0) (search needs))

@@ -3,7 +3,6 @@ use borrow.Author.Needs.{needs}
 use mathlib.Core.Path.{_≡_, sym, _∙_}
 use mathlib.Core.List.{zipWith}
 use Prim.Native.Nat.{_-_, _^_, _≤_}
-use native.Mathlib.Omega.{arith}
 use lib.Dec.{lit≤}
 use lib.IntN.{pos}
 use lib.ListN.{length}
@@ -35,9 +34,9 @@ loop-again c =
     let l = c .before .before .before .before .loop in
     let s = c .before .before .before .before .before in
     let e = simp (read tt (s .pre .0 .each (l .i)), read tt (s .pre .1 .each (l .i))) at (c .toward .ensures) in (
-      omega arith,
-      fill-more (l .i) (pos 0) _ (l .inv .1) (omega (arith, ten s))
-          (back (c .toward .result) (c .toward .ok) ∙ e ∙ zip-element _ (pos 0) (s .args .t1) (s .args .t2) (l .i) (omega (arith, s .pre .0 .size)) (omega (arith, s .pre .1 .size))),
+      search needs,
+      fill-more (l .i) (pos 0) _ (l .inv .1) (search (needs, ten s))
+          (back (c .toward .result) (c .toward .ok) ∙ e ∙ zip-element _ (pos 0) (s .args .t1) (s .args .t2) (l .i) (search (needs, s .pre .0 .size)) (search (needs, s .pre .1 .size))),
     )
 
 pub toward-each-spec : {M : Type 1} → statement M
@@ -46,4 +45,4 @@ toward-each-spec =
     (λ c. (lit≤ tt, fill-none (c .pre .0 .size ∙ sym (ten c))))
     (λ c. search needs) (λ c. search needs) (λ c. search needs) (λ c. search needs) toward-requires
     (λ c. search needs) (λ c. search needs) (λ c. search needs) (λ c. search needs) loop-again
-    (λ c. fill-all (c .before .loop .i) (c .before .loop .inv .1) (omega (arith, ten (c .before .before)))))
+    (λ c. fill-all (c .before .loop .i) (c .before .loop .inv .1) (search (needs, ten (c .before .before)))))

@@ -5,14 +5,13 @@ use mir.Syntax.{w32}
 use mir.Val.{toZ}
 use mathlib.Core.Path.{_≡_}
 use Prim.Native.Nat.{_+_}
-use native.Mathlib.Omega.{arith}
 use lib.IntN.{pos}
 use Rattle.sound.proofs.pulse.next_pulse.Statement.{statement}
 use Rattle.sound.proofs.pulse.next_pulse.Tie as tie
 
 -- the place fits an i32
 next-is : (c : tie.Start) → toZ w32 (c .args .place + 1) ≡ pos (c .args .place + 1)
-next-is c = toZ-pos w32 {n = c .args .place + 1} (omega arith)
+next-is c = toZ-pos w32 {n = c .args .place + 1} (search needs)
 
 pub next-pulse-spec : {M : Type 1} → statement M
 next-pulse-spec =

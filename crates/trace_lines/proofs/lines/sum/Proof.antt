@@ -1,7 +1,6 @@
 -- `trace_lines::lines::sum` meets its contract. Assumes nothing.
 use borrow.Author.Needs.{needs}
 use Prim.Native.Nat.{_-_, _≤_}
-use native.Mathlib.Omega.{arith}
 use lib.ListN.{length}
 use Rattle.trace_lines.proofs.lines.sum.Statement.{statement}
 use Rattle.trace_lines.proofs.lines.sum.Tie as tie
@@ -15,6 +14,6 @@ abbrev μ-loop : tie.MeasureT-loop
 pub sum-spec : {M : Type 1} → statement M
 sum-spec =
     tie.close (tie.spec Inv-loop μ-loop (λ c. search needs) (λ c. search needs)
-    (λ c. omega (arith, c .shared-slice-known .given (c .before .before .loop .i)))
-    (λ c. omega (arith, c .shared-slice-known .given (c .before .before .loop .i)))
+    (λ c. search (needs, c .shared-slice-known .given (c .before .before .loop .i)))
+    (λ c. search (needs, c .shared-slice-known .given (c .before .before .loop .i)))
     (λ c. search needs) (λ c. search needs) (λ c. search needs) (λ c. search needs))

@@ -1,7 +1,6 @@
 -- `trace_lines::numbers::digits`, which calls itself on a tenth of the number, meets its contract. Assumes nothing.
 use borrow.Author.Needs.{needs}
 use Prim.Native.Nat.{ℕ, _<_}
-use native.Mathlib.Omega.{arith}
 use borrow.Fn.Kinds.{In}
 use borrow.Fn.PlainCycle.{Measures, is, falls, and}
 use Rattle.trace_lines.proofs.numbers.digits.Reads as digits
@@ -29,10 +28,10 @@ pub +digits-spec : {M : Type 1} → statement M
 )
     (digits-at t)
     digits.Post
-    (λ c. omega arith)
-    (λ c. omega arith)
+    (λ c. search needs)
+    (λ c. search needs)
     (λ c κs. search needs)
-    (λ c κs. (omega arith, tt))
+    (λ c κs. (search needs, tt))
     (λ c κs. search needs)
     (λ c. search needs)
     (λ c. search needs)

@@ -2,7 +2,6 @@
 use borrow.Author.Needs.{needs}
 use mathlib.Core.Path.{_≡_}
 use Prim.Native.Nat.{_-_, _^_, _<_}
-use native.Mathlib.Omega.{arith}
 use lib.IntN.{ℤ, pos, negsuc, natAbs, _-ℤ_}
 use lib.Signed.{ltZ}
 use mathlib.Core.Bool.{true}
@@ -34,10 +33,10 @@ sub-result : tie.Need-sub-result
 sub-result c = simp (toZ-ofZ, c .before .fits .z, flipped c) (record { sfits = less c })
 
 cast-result : tie.Need-cast-result
-cast-result c = simp (toZ-ofZ, c .before .fits .z, flipped c, kept c) (tt, record { fits = omega (arith, less c) })
+cast-result c = simp (toZ-ofZ, c .before .fits .z, flipped c, kept c) (tt, record { fits = search (needs, less c) })
 
 add-result : tie.Need-add-result
-add-result c = simp (toZ-ofZ, c .before .fits .z, flipped c, kept c) (record { fits = omega (arith, less c) })
+add-result c = simp (toZ-ofZ, c .before .fits .z, flipped c, kept c) (record { fits = search (needs, less c) })
 
 cast-result-2 : tie.Need-cast-result-2
 cast-result-2 c =

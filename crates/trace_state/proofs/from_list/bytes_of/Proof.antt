@@ -3,7 +3,6 @@ use borrow.Author.Needs.{needs}
 use mathlib.Core.Path.{_≡_, sym, _∙_}
 use mathlib.Core.List.{map}
 use Prim.Native.Nat.{_-_, _≤_}
-use native.Mathlib.Omega.{arith}
 use lib.IntN.{pos}
 use lib.ListN.{length, take, drop}
 use Rattle.trace_script.specs.Script.{stateLength}
@@ -21,21 +20,21 @@ abbrev μ-loop : tie.MeasureT-loop
 loop-holds : tie.Need-loop-holds Inv-loop μ-loop
 loop-holds c =
     let n : length (c .args .numbers) ≡ stateLength = search needs in
-    (omega arith, n, fill-none (sym (part-length (natural 255) 8 16 (c .args .numbers) (omega (arith, n)))))
+    (search needs, n, fill-none (sym (part-length (natural 255) 8 16 (c .args .numbers) (search (needs, n)))))
 
 loop-again : tie.Need-loop-again Inv-loop μ-loop
 loop-again c =
     let l = c .before .before .loop in
     let s = c .before .before .before in
-    let n = part-length (natural 255) 8 16 (s .args .numbers) (omega (arith, l .inv .1)) in
-    let e = part-element (natural 255) 8 16 (s .args .numbers) (l .i) (pos 0) (omega arith) in
-    (omega arith, l .inv .1, fill-more (l .i) 0 _ (l .inv .2) (omega (arith, n)) (c .byte-at .ensures ∙ e))
+    let n = part-length (natural 255) 8 16 (s .args .numbers) (search (needs, l .inv .1)) in
+    let e = part-element (natural 255) 8 16 (s .args .numbers) (l .i) (pos 0) (search needs) in
+    (search needs, l .inv .1, fill-more (l .i) 0 _ (l .inv .2) (search (needs, n)) (c .byte-at .ensures ∙ e))
 
 returns : tie.Need-returns Inv-loop μ-loop
 returns c =
     let v = c .before .loop .inv in
-    let n = part-length (natural 255) 8 16 (c .before .before .args .numbers) (omega (arith, v .1)) in
-    fill-all (c .before .loop .i) (v .2) (omega (arith, n))
+    let n = part-length (natural 255) 8 16 (c .before .before .args .numbers) (search (needs, v .1)) in
+    fill-all (c .before .loop .i) (v .2) (search (needs, n))
 
 pub bytes-of-spec : {M : Type 1} → statement M
 bytes-of-spec =

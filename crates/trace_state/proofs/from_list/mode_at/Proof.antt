@@ -1,14 +1,13 @@
 -- `trace_state::from_list::mode_at` meets its contract. Assumes nothing.
 use borrow.Author.Needs.{needs}
 use mathlib.Core.Path.{_≡_, sym, _∙_}
-use native.Mathlib.Omega.{arith}
 use Rattle.trace_state.proofs.from_list.mode_at.Statement.{statement}
 use Rattle.trace_state.proofs.from_list.mode_at.Tie as tie
 
 returns-4 : tie.Need-returns-4
 returns-4 c =
     let r = c .before .natural-at in
-    let e : r .result ≡ 3 = omega (arith, r .ensures .1) in
+    let e : r .result ≡ 3 = search (needs, r .ensures .1) in
     rw (sym (r .ensures .0) ∙ e)
 
 pub mode-at-spec : {M : Type 1} → statement M

@@ -3,7 +3,6 @@ use borrow.Author.Needs.{needs}
 use mathlib.Core.Path.{_≡_, sym, _∙_}
 use mathlib.Core.List.{map}
 use Prim.Native.Nat.{_+_, _-_, _≤_}
-use native.Mathlib.Omega.{arith}
 use lib.IntN.{pos}
 use lib.ListN.{length, getD, take, drop}
 use mir.Facts.{toZ-ofZ}
@@ -26,23 +25,23 @@ abbrev μ-loop : tie.MeasureT-loop
 loop-holds : tie.Need-loop-holds Inv-loop μ-loop
 loop-holds c =
     let n : length (c .args .t1) ≡ stateLength = search needs in
-    (omega arith, n, fill-none (sym (part-length short (c .args .at) 10 (c .args .t1) (omega (arith, n)))))
+    (search needs, n, fill-none (sym (part-length short (c .args .at) 10 (c .args .t1) (search (needs, n)))))
 
 loop-again : tie.Need-loop-again Inv-loop μ-loop
 loop-again c =
     let l = c .before .before .before .loop in
     let s = c .before .before .before .before in
     let z : SFits w64 (getD (s .args .t1) (s .args .at + l .i) (pos 0)) = search (each-fits w64, s .good) in
-    let n = part-length short (s .args .at) 10 (s .args .t1) (omega (arith, l .inv .1)) in
-    let e = part-element short (s .args .at) 10 (s .args .t1) (l .i) (pos 0) (omega arith) in
+    let n = part-length short (s .args .at) 10 (s .args .t1) (search (needs, l .inv .1)) in
+    let e = part-element short (s .args .at) 10 (s .args .t1) (l .i) (pos 0) (search needs) in
     let v = back (c .short .result) (c .short .ok) ∙ (simp (toZ-ofZ, z) at (c .short .ensures)) ∙ e in
-    (omega arith, l .inv .1, fill-more (l .i) (short (pos 0)) _ (l .inv .2) (omega (arith, n)) v)
+    (search needs, l .inv .1, fill-more (l .i) (short (pos 0)) _ (l .inv .2) (search (needs, n)) v)
 
 returns : tie.Need-returns Inv-loop μ-loop
 returns c =
     let v = c .before .loop .inv in
-    let n = part-length short (c .before .before .args .at) 10 (c .before .before .args .t1) (omega (arith, v .1)) in
-    fill-all (c .before .loop .i) (v .2) (omega (arith, n))
+    let n = part-length short (c .before .before .args .at) 10 (c .before .before .args .t1) (search (needs, v .1)) in
+    fill-all (c .before .loop .i) (v .2) (search (needs, n))
 
 pub shorts-of-spec : {M : Type 1} → statement M
 shorts-of-spec =

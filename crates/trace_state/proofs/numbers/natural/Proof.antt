@@ -1,6 +1,5 @@
 -- `trace_state::numbers::natural` meets its contract. Assumes nothing.
 use borrow.Author.Needs.{needs}
-use native.Mathlib.Omega.{arith}
 use mir.Facts.{toZ-ofZ}
 use Rattle.base.proofs.Signed.{abs-below, not-negative}
 use Rattle.trace_state.proofs.Signed.{negative-is, low-is, high-is}
@@ -17,15 +16,15 @@ returns-2 c =
     let s = c .before .before in
     let h = simp (toZ-ofZ, s .fits .z) at (c .if2 .taken) in
     simp (toZ-ofZ, s .fits .z)
-    (low-is (s .args .z) (s .args .most) (simp (toZ-ofZ, s .fits .z) at (c .before .if1 .left)) h, omega (arith, h))
+    (low-is (s .args .z) (s .args .most) (simp (toZ-ofZ, s .fits .z) at (c .before .if1 .left)) h, search (needs, h))
 
 returns-3 : tie.Need-returns-3
 returns-3 c =
     let s = c .before .before in
-    (high-is (s .args .z) (s .args .most) (simp (toZ-ofZ, s .fits .z) at (c .before .if1 .left)) (simp (toZ-ofZ, s .fits .z) at (c .if2 .left)), omega arith)
+    (high-is (s .args .z) (s .args .most) (simp (toZ-ofZ, s .fits .z) at (c .before .if1 .left)) (simp (toZ-ofZ, s .fits .z) at (c .if2 .left)), search needs)
 
 pub natural-spec : {M : Type 1} → statement M
 natural-spec =
     tie.close (tie.spec
-    (λ c. (negative-is (c .before .args .z) (c .before .args .most) (simp (toZ-ofZ, c .before .fits .z) at (c .if1 .taken)), omega arith))
+    (λ c. (negative-is (c .before .args .z) (c .before .args .most) (simp (toZ-ofZ, c .before .fits .z) at (c .if1 .taken)), search needs))
     cast-n (λ c. search needs) returns-2 returns-3)

@@ -2,7 +2,6 @@
 use borrow.Author.Needs.{needs}
 use mathlib.Core.Path.{_≡_, ap, _∙_}
 use Prim.Native.Nat.{suc, _-_}
-use native.Mathlib.Omega.{arith}
 use Rattle.base.proofs.Range.{back}
 use Rattle.trace_state.specs.Fields.{paramNumbers, nth}
 use Rattle.base.proofs.Signed.{returned}
@@ -19,7 +18,7 @@ returns-2 c =
 returns-3 : tie.Need-returns-3
 returns-3 c =
     let a = c .before .before .before .before .args in
-    let e : suc (suc (a .i - 2)) ≡ a .i = omega arith in
+    let e : suc (suc (a .i - 2)) ≡ a .i = search needs in
     returned (c .ten-number .ok) (c .ten-number .ensures ∙ ap (nth (paramNumbers (a .params))) e)
 
 pub param-number-spec : {M : Type 1} → statement M

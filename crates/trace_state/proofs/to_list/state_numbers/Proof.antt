@@ -2,7 +2,6 @@
 use borrow.Author.Needs.{needs}
 use mathlib.Core.Path.{_≡_, sym}
 use Prim.Native.Nat.{_-_, _≤_}
-use native.Mathlib.Omega.{arith}
 use lib.IntN.{pos}
 use lib.ListN.{length}
 use Rattle.trace_script.specs.Script.{stateLength}
@@ -22,15 +21,15 @@ abbrev μ-loop : tie.MeasureT-loop
 loop-holds : tie.Need-loop-holds Inv-loop μ-loop
 loop-holds c =
     let n = state-length (c .args .chip) (search needs) (search needs) (search needs) (search needs) in
-    (omega arith, n, fill-none (sym n))
+    (search needs, n, fill-none (sym n))
 
 loop-again : tie.Need-loop-again Inv-loop μ-loop
 loop-again c =
     let l = c .before .before .loop in
-    (omega arith, l .inv .1, fill-more (l .i) (pos 0) _ (l .inv .2) (omega (arith, l .inv .1)) (returned (c .field .ok) (c .field .ensures)))
+    (search needs, l .inv .1, fill-more (l .i) (pos 0) _ (l .inv .2) (search (needs, l .inv .1)) (returned (c .field .ok) (c .field .ensures)))
 
 pub state-numbers-spec : {M : Type 1} → statement M
 state-numbers-spec =
     tie.close (tie.spec Inv-loop μ-loop loop-holds (λ c κs. search needs) (λ c. search needs) (λ c. search needs)
     (λ c. search needs) (λ c. search needs) loop-again
-    (λ c. let v = c .before .loop .inv in fill-all _ (v .2) (omega (arith, v .1))))
+    (λ c. let v = c .before .loop .inv in fill-all _ (v .2) (search (needs, v .1))))

@@ -1,7 +1,6 @@
 -- `voice::checks::table_valid` meets its contract. Assumes nothing.
 use mathlib.Core.Path.{_≡_}
 use Prim.Native.Nat.{_≤_, _-_}
-use native.Mathlib.Omega.{arith}
 use borrow.Author.Needs.{needs}
 use Rattle.voice.specs.Layout.{entries}
 use Rattle.voice.specs.Check.{entriesValid}
@@ -28,7 +27,7 @@ loop-again c =
 returns : tie.Need-returns Inv-loop μ-loop
 returns c =
     let a = c .before .before .before .before .args in
-    let h : c .before .loop .i ≡ entries (a .pitch-bits) (a .table) = omega arith in
+    let h : c .before .loop .i ≡ entries (a .pitch-bits) (a .table) = search needs in
     rw h at (c .before .loop .inv .1)
 
 pub table-valid-spec : {M : Type 1} → statement M

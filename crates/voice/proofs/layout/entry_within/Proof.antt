@@ -1,6 +1,5 @@
 -- `voice::layout::entry_within` meets its contract. Assumes nothing.
 use borrow.Author.Needs.{needs}
-use native.Mathlib.Omega.{arith}
 use Rattle.voice.proofs.Tables.{before-count}
 use Rattle.voice.proofs.layout.entry_within.Statement.{statement}
 use Rattle.voice.proofs.layout.entry_within.Tie as tie
@@ -10,5 +9,5 @@ entry-within-spec =
     tie.close (tie.spec (λ c κs. search needs) (λ c. search needs) (λ c. search needs) (λ c. search needs)
     (λ c κs.
     let s = c .before .before in
-    omega (arith, before-count (s .args .pitch-bits) (s .args .table) (s .args .index) (s .pre .1)))
+    search (needs, before-count (s .args .pitch-bits) (s .args .table) (s .args .index) (s .pre .1)))
     (λ c. rw (← c .before .table-start .ensures .0) (c .be16-within .ensures)))

@@ -2,7 +2,6 @@
 use borrow.Author.Needs.{needs}
 use mathlib.Core.Path.{refl}
 use native.Mathlib.Nat.{one-mul}
-use native.Mathlib.Omega.{arith}
 use lib.Dec.{lit<}
 use lib.Pow.{shl-exact}
 use Rattle.voice.proofs.Places.{pitches-most}
@@ -12,4 +11,4 @@ use Rattle.voice.proofs.layout.pitches.Tie as tie
 pub pitches-spec : {M : Type 1} → statement M
 pitches-spec =
     tie.close (tie.spec (λ c. search needs) (λ c. search needs)
-    (λ c. rw (shl-exact {a = 1} 1 (c .args .pitch-bits) 16 (lit< tt) (omega arith), one-mul) (refl, pitches-most (c .pre))))
+    (λ c. rw (shl-exact {a = 1} 1 (c .args .pitch-bits) 16 (lit< tt) (search needs), one-mul) (refl, pitches-most (c .pre))))

@@ -1,7 +1,6 @@
 -- `voice::layout::twos_complement` meets its contract. Assumes nothing.
 use Prim.Native.Nat.{_*_, _/_, _%_}
 use native.Mathlib.Nat.{mod-le}
-use native.Mathlib.Omega.{arith}
 use borrow.Author.Needs.{needs}
 use lib.IntN.{pos}
 use Rattle.base.specs.Range.{Between}
@@ -12,10 +11,10 @@ use Rattle.voice.proofs.layout.twos_complement.Statement.{statement}
 use Rattle.voice.proofs.layout.twos_complement.Tie as tie
 
 low-part : (c : tie.Start) → Between 0 65535 (pos (c .args .n % c .args .sign))
-low-part c = signed (omega (arith, mod-le (c .args .n) (c .args .sign)))
+low-part c = signed (search (needs, mod-le (c .args .n) (c .args .sign)))
 
 high-part : (c : tie.Start) → Between 0 65535 (pos (c .args .n / c .args .sign % 2 * c .args .sign))
-high-part c = signed (omega (arith, sign-part (c .args .sign) (c .args .n)))
+high-part c = signed (search (needs, sign-part (c .args .sign) (c .args .n)))
 
 returns : tie.Need-returns
 unfolding twosComplement
@@ -26,7 +25,7 @@ twos-complement-spec =
     tie.close (tie.spec (λ c. search needs)
     (λ c. fits tt (low-part c))
     (λ c. search needs)
-    (λ c. omega (arith, sign-part (c .args .sign) (c .args .n)))
+    (λ c. search (needs, sign-part (c .args .sign) (c .args .n)))
     (λ c. fits tt (high-part c))
     (λ c. simp (read tt (low-part c), read tt (high-part c)) (fits tt (difference (low-part c) (high-part c))))
     returns)

@@ -4,7 +4,6 @@
 use borrow.Author.Needs.{needs}
 use mathlib.Core.Path.{_≡_, ap, _∙_}
 use Prim.Native.Nat.{_-_}
-use native.Mathlib.Omega.{arith}
 use lib.IntN.{ℤ}
 use lib.ListN.{length}
 use mir.Syntax.{w16}
@@ -65,16 +64,16 @@ loop-again c =
       noise = c .before .before .next-noise .ensures;
       pulse = simp (read tt (ok .current .pitch)) at (c .next-pulse .ensures);
     }) in
-    filled-more _ _ _ (l .inv) (omega arith) is (rw (ap (λ (r : Sound × ℤ). r .0) is) (sampled-ranges (a .pitch-bits) (now (a .file)) u ok))
+    filled-more _ _ _ (l .inv) (search needs) is (rw (ap (λ (r : Sound × ℤ). r .0) is) (sampled-ranges (a .pitch-bits) (now (a .file)) u ok))
 
 returns : tie.Need-returns Inv-loop μ-loop
-returns c = rw (c .renew .ensures) (filled-all _ _ _ (c .before .before .loop .inv) (omega arith))
+returns c = rw (c .renew .ensures) (filled-all _ _ _ (c .before .before .loop .inv) (search needs))
 
 pub play-spec : {M : Type 1} → statement M
 play-spec =
     tie.close (tie.spec Inv-loop μ-loop (λ c κs. search needs) loop-holds
     (λ c κs. c .before .before .before .before .before .before .before .pre .1)
     filtered-requires (λ c. search needs) (λ c. search needs)
-    (λ c κs. omega (arith, c .before .before .before .before .before .before .loop .inv .holds .noise-high))
+    (λ c κs. search (needs, c .before .before .before .before .before .before .loop .inv .holds .noise-high))
     (λ c κs. c .before .before .before .before .before .before .before .before .loop .inv .holds .pulse)
     (λ c. search needs) (λ c. search needs) loop-again (λ c κs. search needs) (λ c. search needs) returns)

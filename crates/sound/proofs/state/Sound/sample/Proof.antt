@@ -1,7 +1,6 @@
 -- `sound::state::Sound::sample` meets its contract. Assumes nothing.
 use borrow.Author.Needs.{needs}
 use mathlib.Core.Path.{_≡_, _∙_}
-use native.Mathlib.Omega.{arith}
 use mir.Syntax.{w16}
 use denote.Ref.{now}
 use Rattle.base.specs.Range.{Between}
@@ -51,6 +50,6 @@ returns c =
 pub sample-spec : {M : Type 1} → statement M
 sample-spec =
     tie.close (tie.spec (λ c κs. search needs) (λ c κs. search needs) filtered-requires
-    (λ c κs. omega (arith, ok (c .before .before .before .before .before .before .before .before .before .before) .noise-high))
+    (λ c κs. search (needs, ok (c .before .before .before .before .before .before .before .before .before .before) .noise-high))
     (λ c κs. ok (c .before .before .before .before .before .before .before .before .before .before .before .before) .pulse)
     (λ c κs. search needs) returns)
