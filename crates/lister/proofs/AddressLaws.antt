@@ -1,7 +1,7 @@
 -- Reading an address, one character after another.
 -- Assumes nothing.
 use mathlib.Core.Path.{_≡_, refl, sym}
-use mathlib.Core.Bool.{Bool, true, false, cond, _&&_}
+use mathlib.Core.Bool.{false, _&&_, and-true, and-false}
 use mathlib.Core.List.{List, [], _∷_}
 use Prim.Native.Nat.{ℕ, suc, _+_, _*_, _-_, _≤_, _<_}
 use native.Mathlib.Numerals.{add-one}
@@ -10,8 +10,10 @@ use borrow.Author.Tests.{lt-ltb, le-ltb, le-leb, lt-leb, ltb-true, ltb-false}
 use lib.Dec.{ltb}
 use lib.ListN.{length, drop, getD}
 use lib.Seq.{drop-cons, drop-length}
+use Rattle.base.proofs.Booleans.{both-true, by-test}
 use Rattle.rom.specs.Bits.{imageLimit}
 use Rattle.lister.specs.Address.{isDigit, allDigits, numberAfter, addressAfter, addressOf}
+use Rattle.lister.proofs.Decimals.{by-cases}
 
 -- more digits make no smaller number
 number-grows : (n : ℕ) (cs : List ℕ) → n ≤ numberAfter n cs
@@ -27,31 +29,19 @@ address-past n cs h = rw (le-ltb (numberAfter n cs) imageLimit (omega (arith, nu
 -- and nothing lies further
 pub address-most : (n : ℕ) (cs : List ℕ) → addressAfter n cs ≤ imageLimit
 unfolding addressAfter
-address-most n cs = go (ltb (numberAfter n cs) imageLimit) refl (allDigits cs)
-  where
-    go : (b : Bool) → ltb (numberAfter n cs) imageLimit ≡ b → (d : Bool) → cond (b && d) (numberAfter n cs) imageLimit ≤ imageLimit
-    go true e true = omega (arith, ltb-true (numberAfter n cs) imageLimit e)
-    go true e false = omega arith
-    go false e d = omega arith
+address-most n cs =
+    by-test (λ m. m ≤ imageLimit) (ltb (numberAfter n cs) imageLimit && allDigits cs)
+    (λ e. omega (arith, ltb-true (numberAfter n cs) imageLimit (both-true _ _ e .0))) (λ e. omega arith)
 
 pub address-end : (n : ℕ) → n ≤ imageLimit → addressAfter n [] ≡ n
 unfolding addressAfter numberAfter allDigits
-address-end n h = go (ltb n imageLimit) refl
-  where
-    go : (b : Bool) → ltb n imageLimit ≡ b → cond (b && true) n imageLimit ≡ n
-    go true e = refl
-    go false e = omega (arith, ltb-false n imageLimit e)
-
--- a choice whose test ends in false
-never : {A : Type 0} (b : Bool) (x y : A) → cond (b && false) x y ≡ y
-never true x y = refl
-never false x y = refl
+address-end n h = rw and-true (by-test (λ m. m ≡ n) (ltb n imageLimit) (λ e. refl) (λ e. omega (arith, ltb-false n imageLimit e)))
 
 module _ (n c : ℕ) where
   -- one more character, which is no digit
   no-digit : isDigit c ≡ false → imageLimit ≡ addressAfter n (c ∷ [])
   unfolding addressAfter allDigits
-  no-digit h = rw h (sym (never (ltb (numberAfter n (c ∷ [])) imageLimit) _ _))
+  no-digit h = rw (h, and-false)
 
   pub address-low : c < 48 → imageLimit ≡ addressAfter n (c ∷ [])
   address-low h = no-digit (rw (lt-leb 48 c h))
@@ -71,17 +61,13 @@ module _ (n c : ℕ) where
 -- the first character is read, then the others
 pub address-more : (n c : ℕ) (cs : List ℕ) → addressAfter n (c ∷ cs) ≡ addressAfter (addressAfter n (c ∷ [])) cs
 unfolding addressAfter numberAfter allDigits
-address-more n c cs = go (ltb m imageLimit) refl (isDigit c) refl
-  where
-    m : ℕ
-    m = 10 * n + (c - 48)
-
-    go : (b : Bool) → ltb m imageLimit ≡ b → (d : Bool) → isDigit c ≡ d → addressAfter n (c ∷ cs) ≡ addressAfter (addressAfter n (c ∷ [])) cs
-    go true e true f = rw (e, f)
-    go true e false f = rw (e, f, address-past imageLimit cs (omega arith)) (never (ltb (numberAfter m cs) imageLimit) _ _)
-    go false e d f =
-        let l = ltb-false m imageLimit e in
-        rw (e, address-past imageLimit cs (omega arith), le-ltb (numberAfter m cs) imageLimit (omega (arith, number-grows m cs)))
+address-more n c cs =
+    let m = 10 * n + (c - 48) in
+    by-cases (ltb m imageLimit)
+    (λ e. by-cases (isDigit c) (λ f. rw (e, f)) (λ f. rw (e, f, address-past imageLimit cs (omega arith), and-false)))
+    (λ e.
+    let l = ltb-false m imageLimit e in
+    rw (e, address-past imageLimit cs (omega arith), le-ltb (numberAfter m cs) imageLimit (omega (arith, number-grows m cs))))
 
 -- i characters of the text are read and give the address n
 pub record Reading (text : List ℕ) (n i : ℕ) : Type 0 where

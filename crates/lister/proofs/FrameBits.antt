@@ -1,7 +1,5 @@
 -- The bit after a frame fits a usize.
 -- Assumes nothing.
-use mathlib.Core.Path.{_≡_, refl}
-use mathlib.Core.Bool.{Bool, true, false}
 use mathlib.Core.List.{List}
 use Prim.Native.Nat.{ℕ, _+_, _*_, _^_, _≤_, _<_}
 use native.Mathlib.Omega.{arith}
@@ -16,6 +14,7 @@ use Rattle.rom.specs.declared.frames.Frame.the-variants.{Silence, Stop, Repeat,
 use Rattle.rom.specs.declared.reader.FrameAnswer.{FrameAnswer}
 use Rattle.rom.specs.declared.reader.FrameAnswer.the-variants.{Whole, Cut}
 use Rattle.rom.proofs.Checks.{valid-length}
+use Rattle.lister.proofs.Decimals.{by-cases}
 
 bits-most : (f : Frame) → bitCount pitchBits f ≤ 50
 bits-most Silence = omega arith
@@ -30,11 +29,8 @@ taken-most Cut = omega arith
 
 pub next-fits : (s : List ℕ) (at : ℕ) → at < 2 ^ 64 → at + frameTakenOf pitchBits s at .bits < 2 ^ 64
 unfolding frameTakenOf
-next-fits s at h = go (imageValid s) refl (leb (8 * length s) at) refl
-  where
-    go : (v : Bool) → imageValid s ≡ v → (b : Bool) → leb (8 * length s) at ≡ b → at + frameTakenOf pitchBits s at .bits < 2 ^ 64
-    go false p b q = rw p (omega arith)
-    go true p true q = rw (p, q) (omega arith)
-    go true p false q =
-        let h = valid-length s p in
-        rw (p, q) (omega (arith, taken-most (frameAt pitchBits s at), leb-false (8 * length s) at q))
+next-fits s at h =
+    by-cases (imageValid s)
+    (λ p. by-cases (leb (8 * length s) at) (λ q. rw (p, q) (omega arith))
+    (λ q. rw (p, q) (omega (arith, taken-most (frameAt pitchBits s at), valid-length s p, leb-false (8 * length s) at q))))
+    (λ p. rw p (omega arith))

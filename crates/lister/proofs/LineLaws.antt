@@ -8,6 +8,7 @@ use native.Mathlib.Omega.{arith}
 use lib.Dec.{eqb, leb}
 use lib.ListN.{length, take, drop, getD, length-append}
 use lib.Seq.{getD-drop}
+use Rattle.base.proofs.Booleans.{by-test}
 use Rattle.lister.specs.Text.{codes, decimal}
 use Rattle.lister.specs.Lines.{kindWord, pitchText, kCount, indexes, frameLine, phraseLine, refusedLine}
 use Rattle.lister.proofs.Decimals.{decimal-length}
@@ -32,18 +33,11 @@ kind-length kind =
     (cond-length (eqb kind 4) _ _ 8 (omega arith)
     (cond-length (eqb kind 5) _ _ 8 (omega arith) (omega arith)))))
 
-pitch-length : (kind pitch : ℕ) → pitch < 256 → length (pitchText kind pitch) ≤ 3
-unfolding pitchText
-pitch-length kind pitch h = cond-length (leb kind 2) _ _ 3 (omega arith) (decimal-length 2 pitch (omega arith))
-
 pub k-count-most : (kind : ℕ) → kCount kind ≤ 10
 unfolding kCount
-k-count-most kind = go (eqb kind 4) (eqb kind 5)
-  where
-    go : (a b : Bool) → cond a 4 (cond b 10 0) ≤ 10
-    go true b = omega arith
-    go false true = omega arith
-    go false false = omega arith
+k-count-most kind =
+    by-test (λ n. n ≤ 10) (eqb kind 4) (λ e. omega arith)
+    (λ e. by-test (λ n. n ≤ 10) (eqb kind 5) (λ f. omega arith) (λ f. omega arith))
 
 -- each K index takes at most 4 bytes with its space
 indexes-length : (n : ℕ) (ks : List ℕ) → ((i : ℕ) → getD ks i 0 < 256) → length (indexes (take n ks)) ≤ 4 * n
@@ -68,13 +62,13 @@ phrase-length a b c ha hb hc =
     simp length-append (omega arith)
 
 pub frame-length : (first : ℕ) (numbers : List ℕ) → first < 2 ^ 64 → ((i : ℕ) → getD numbers i 0 < 256) → length (frameLine first numbers) ≤ 80
-unfolding frameLine
+unfolding frameLine pitchText
 frame-length first numbers hf hn =
     let kind = getD numbers 0 0 in
     let df = decimal-length 19 first (omega arith) in
     let dk = kind-length kind in
     let de = decimal-length 2 (getD numbers 1 0) (omega (arith, hn 1)) in
-    let dp = pitch-length kind (getD numbers 2 0) (hn 2) in
+    let dp = cond-length (leb kind 2) (codes "-") (decimal (getD numbers 2 0)) 3 (omega arith) (decimal-length 2 (getD numbers 2 0) (omega (arith, hn 2))) in
     let di = indexes-length (kCount kind) (drop 3 numbers) (λ i. rw getD-drop (hn (3 + i))) in
     let dc = k-count-most kind in
     simp length-append (omega arith)

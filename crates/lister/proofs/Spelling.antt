@@ -1,9 +1,9 @@
 -- Decimal digits, read as an address, give their number.
 -- Assumes nothing.
 use mathlib.Core.Path.{_≡_, refl}
-use mathlib.Core.Bool.{Bool, true, false, cond}
+use mathlib.Core.Bool.{true, cond}
 use mathlib.Core.List.{List, [], _∷_, _++_}
-use Prim.Native.Nat.{ℕ, zero, suc, _+_, _*_, _-_, _/_, _%_, _≤_, _<_}
+use Prim.Native.Nat.{ℕ, zero, suc, _+_, _*_, _-_, _/_, _%_, _<_}
 use native.Mathlib.Omega.{arith}
 use borrow.Author.Tests.{lt-ltb, le-leb, ltb-true, ltb-false}
 use lib.Dec.{ltb}
@@ -12,7 +12,7 @@ use Rattle.base.proofs.Booleans.{both-true, and-true}
 use Rattle.rom.specs.Bits.{imageLimit}
 use Rattle.lister.specs.Text.{decimal}
 use Rattle.lister.specs.Address.{isDigit, allDigits, numberAfter, addressAfter, addressOf}
-use Rattle.lister.proofs.Decimals.{decimal-one, decimal-more}
+use Rattle.lister.proofs.Decimals.{by-cases, decimal-one, decimal-more}
 
 -- a last digit
 number-last : (n : ℕ) (cs : List ℕ) (c : ℕ) → numberAfter n (cs ++ (c ∷ [])) ≡ 10 * numberAfter n cs + (c - 48)
@@ -31,30 +31,22 @@ record Spells (text : List ℕ) (n : ℕ) : Type 0 where
   digits : allDigits text ≡ true
   number : numberAfter 0 text ≡ n
 
-a-digit : (d : ℕ) → d < 10 → isDigit (48 + d) ≡ true
-a-digit d h = rw (le-leb 48 (48 + d) (omega arith), le-leb (48 + d) 57 (omega arith))
-
 decimal-spells : (k n : ℕ) → n < k → Spells (decimal n) n
 unfolding numberAfter allDigits
 decimal-spells zero n h = absurd (omega arith)
-decimal-spells (suc k) n h = go (ltb n 10) refl (λ l. decimal-spells k (n / 10) (omega arith))
-  where
-    d : isDigit (48 + n % 10) ≡ true
-    d = a-digit (n % 10) (omega arith)
-
-    go : (b : Bool) → ltb n 10 ≡ b → (10 ≤ n → Spells (decimal (n / 10)) (n / 10)) → Spells (decimal n) n
-    go true e tenth =
-        rw (decimal-one n (ltb-true n 10 e))
-        (record { some = omega arith; digits = rw d; number = omega (arith, ltb-true n 10 e) })
-    go false e tenth =
-        let l = ltb-false n 10 e in
-        let t = tenth l in
-        rw (decimal-more n l)
-        (record {
-          some = simp length-append (omega arith);
-          digits = digits-last (decimal (n / 10)) (48 + n % 10) (t .digits) d;
-          number = rw (number-last 0 (decimal (n / 10)) (48 + n % 10), t .number) (omega arith);
-        })
+decimal-spells (suc k) n h =
+    let d : isDigit (48 + n % 10) ≡ true = rw (le-leb 48 (48 + n % 10) (omega arith), le-leb (48 + n % 10) 57 (omega arith)) in
+    by-cases (ltb n 10)
+    (λ e. rw (decimal-one n (ltb-true n 10 e)) (record { some = omega arith; digits = rw d; number = omega (arith, ltb-true n 10 e) }))
+    (λ e.
+    let l = ltb-false n 10 e in
+    let t = decimal-spells k (n / 10) (omega arith) in
+    rw (decimal-more n l)
+    (record {
+      some = simp length-append (omega arith);
+      digits = digits-last (decimal (n / 10)) (48 + n % 10) (t .digits) d;
+      number = rw (number-last 0 (decimal (n / 10)) (48 + n % 10), t .number) (omega arith);
+    }))
 
 pub address-of-decimal : (n : ℕ) → addressOf (decimal n) ≡ cond (ltb n imageLimit) n imageLimit
 unfolding addressOf addressAfter

@@ -2,7 +2,7 @@
 use borrow.Author.Needs.{needs}
 use mathlib.Core.Path.{_≡_, ap, _∙_}
 use mathlib.Core.List.{_++_}
-use Prim.Native.Nat.{_-_, _+_, _≤_}
+use Prim.Native.Nat.{_-_, _≤_}
 use lib.ListN.{length, take, length-take}
 use Rattle.lister.specs.Text.{contents}
 use Rattle.lister.proofs.Copies.{Copied, copied-none, copied-more, take-taken}
