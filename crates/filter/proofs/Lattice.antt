@@ -2,13 +2,13 @@
 -- Assumes nothing.
 use mathlib.Core.Path.{_≡_, refl, sym, ap, ap₂, _∙_}
 use mathlib.Core.List.{List, [], _∷_, _++_, append-assoc, append-nil}
-use Prim.Native.Nat.{ℕ, zero, suc, _<_}
+use Prim.Native.Nat.{ℕ, suc, _<_}
 use native.Mathlib.Nat.{suc-inj}
 use native.Mathlib.Decide.{decLt}
 use native.Mathlib.Omega.{arith}
 use lib.IntN.{ℤ, pos}
 use lib.ListN.{length, take, drop, getD, set, length-set, drop-of-length-le}
-use lib.Seq.{take-suc, take-set-le, length-take-le, take-all, take-at, take-length}
+use lib.Seq.{take-suc, take-set-le, length-take-le, take-all, take-at, drop-at, take-length, set-split}
 use Rattle.filter.specs.Filter.{forwardOf, memoryOf, forward, upperMemory, newMemory}
 use Rattle.filter.specs.Stages.{stageForward, stageMemory, lowestForward, lowestMemory}
 
@@ -39,9 +39,7 @@ upper-length (k ∷ ks) (m ∷ ms) x e = ap suc (upper-length ks ms x (suc-inj e
 
 -- from the place of a store on
 drop-set : (l : List ℤ) (i : ℕ) (a : ℤ) → i < length l → drop i (set l i a) ≡ a ∷ drop (suc i) l
-drop-set [] i a h = absurd (omega arith)
-drop-set (b ∷ l) zero a h = refl
-drop-set (b ∷ l) (suc i) a h = drop-set l i a (omega arith)
+drop-set l i a h = rw (set-split l i a h) (drop-at (take i l) (a ∷ drop (suc i) l) i (length-take-le i l (omega arith)))
 
 module _ (ks ms : List ℤ) (same : length ks ≡ length ms) where
   -- no stage is left: forward value 1 is new memory 1

@@ -58,30 +58,25 @@ end-saturated (pos n) h e =
 end-saturated (negsuc n) h e =
     rw (below-zero n h) (sym (cond-true (ltZ (negsuc n) memoryMin) memoryMin (negsuc n) (not-false _ (sym (and-true _) ∙ e))))
 
-returns : tie.Need-returns
-returns c =
-    let s = c .before .before in
-    let h = s .pre in
-    let i = simp (read tt h) at (c .before .is-inside .ensures) in
-    read tt h ∙ inside-saturated (s .args .z) (sym i ∙ c .if1 .taken)
-
-returns-2 : tie.Need-returns-2
-returns-2 c =
-    let s = c .before .before .before in
-    let h = s .pre in
-    let i = simp (read tt h) at (c .before .before .is-inside .ensures) in
-    simp (read tt h, read tt (raised-range (s .args .z) h))
-    (rw (end-saturated (s .args .z) h (sym i ∙ c .before .if1 .left)) (read tt (saturated-range (s .args .z))))
-
 index-small : (c : tie.Else1) → natAbs (raised (c .before .before .args .z)) / sumLimit < 2
 index-small c = search (needs, raised-small (c .before .before .args .z) (c .before .before .pre) .1)
 
 pub saturate-spec : {M : Type 1} → statement M
 saturate-spec =
-    tie.close (tie.spec (λ c κs. search needs) returns
+    tie.close (tie.spec (λ c κs. search needs)
+    (λ c.
+    let s = c .before .before in
+    let h = s .pre in
+    let i = simp (read tt h) at (c .before .is-inside .ensures) in
+    read tt h ∙ inside-saturated (s .args .z) (sym i ∙ c .if1 .taken))
     (λ c. let h = c .before .before .pre in simp (read tt h) (fits tt (raised-range _ h)))
     (λ c. let h = c .before .before .pre in let r = raised-small (c .before .before .args .z) h in simp (read tt h, read tt (raised-range _ h)) (r .0, search (needs, r .1)))
     (λ c. search needs) (λ c. search needs)
     (λ c. let h = c .before .before .pre in simp (read tt h, read tt (raised-range _ h)) (search (needs, index-small c)))
     (λ c. let h = c .before .before .pre in simp (read tt h, read tt (raised-range _ h)) (index-small c))
-    returns-2)
+    (λ c.
+    let s = c .before .before .before in
+    let h = s .pre in
+    let i = simp (read tt h) at (c .before .before .is-inside .ensures) in
+    simp (read tt h, read tt (raised-range (s .args .z) h))
+    (rw (end-saturated (s .args .z) h (sym i ∙ c .before .if1 .left)) (read tt (saturated-range (s .args .z))))))

@@ -21,29 +21,23 @@ forward-is c =
     let s = c .before .before .before in
     simp (read tt (s .pre .0 .each (s .args .i)), read tt (s .pre .1 .each (s .args .i)), read tt (s .pre .2)) at (c .forward-of .ensures)
 
-memory-of-requires : tie.Need-memory-of-requires
-memory-of-requires c κs =
+pub stage-spec : {M : Type 1} → statement M
+stage-spec =
+    tie.close (tie.spec (λ c. search needs) (λ c. search needs) (λ c. search needs) (λ c. search needs)
+    forward-of-requires (λ c. search needs)
+    (λ c κs.
     let s = c .before .before .before .before in
     let f : Between 8192 8191 (c .before .forward-of .result) = rw (forward-is (c .before)) (saturated-range _) in
-    (passed tt (s .pre .0 .each (s .args .i)), passed tt (s .pre .1 .each (s .args .i)), passed tt f)
-
-returns : tie.Need-returns
-returns c =
+    (passed tt (s .pre .0 .each (s .args .i)), passed tt (s .pre .1 .each (s .args .i)), passed tt f))
+    (λ c. search needs) (λ c. search needs) (λ c. search needs)
+    (λ c.
     let s = c .before .before .before .before .before in
     let a = c .before .before in
     let f = forward-is a in
     let back-f = back (a .forward-of .result) (a .forward-of .ok) in
     let m = rw f at (rw back-f at (simp (read tt (s .pre .0 .each (s .args .i)), read tt (s .pre .1 .each (s .args .i))) at (c .memory-of .ensures))) in
-    (rw (back-f, f), rw (back (c .memory-of .result) (c .memory-of .ok), m, add-one))
-
-returns-2 : tie.Need-returns-2
-returns-2 c =
+    (rw (back-f, f), rw (back (c .memory-of .result) (c .memory-of .ok), m, add-one)))
+    (λ c.
     let s = c .before .before .before .before in
     let a = c .before in
-    (rw (back (a .forward-of .result) (a .forward-of .ok), forward-is a), sym (set-out (now (s .args .memory)) _ _ (search (needs, s .pre .1 .size))))
-
-pub stage-spec : {M : Type 1} → statement M
-stage-spec =
-    tie.close (tie.spec (λ c. search needs) (λ c. search needs) (λ c. search needs) (λ c. search needs)
-    forward-of-requires (λ c. search needs) memory-of-requires (λ c. search needs) (λ c. search needs)
-    (λ c. search needs) returns returns-2)
+    (rw (back (a .forward-of .result) (a .forward-of .ok), forward-is a), sym (set-out (now (s .args .memory)) _ _ (search (needs, s .pre .1 .size))))))
