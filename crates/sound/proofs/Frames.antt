@@ -39,29 +39,6 @@ targets-ranges v Silence proper h = record { energy = nought; pitch = h .pitch; 
 targets-ranges v Stop proper h = record { energy = nought; pitch = h .pitch; k = h .k }
 targets-ranges v (Repeat e p) (fit, kind) h = record { energy = v .energy e (kind .1); pitch = v .pitch p (fit .1 .1 .0); k = h .k }
 targets-ranges v (Unvoiced e k1 k2 k3 k4) (fit, kind) h =
-    let f1 = fit .1 .1 .1 in
-    let f2 = f1 .1 in
-    let f3 = f2 .1 in
-    let f4 = f3 .1 in
-    let silent : Between 0 1023 (pos 0) = nought in
-    record {
-      energy = search (v .energy);
-      pitch = silent;
-      k = ten _ refl (v .k 0 k1 (f1 .0), (v .k 1 k2 (f2 .0), (v .k 2 k3 (f3 .0), (v .k 3 k4 (f4 .0), (nought, (nought, (nought, (nought, (nought, (nought, tt))))))))));
-    }
+    record { energy = search (v .energy); pitch = nought; k = ten _ refl (search (v .k, nought) depth 12) }
 targets-ranges v (Voiced e p k1 k2 k3 k4 k5 k6 k7 k8 k9 k10) (fit, kind) h =
-    let f1 = fit .1 .1 .1 in
-    let f2 = f1 .1 in
-    let f3 = f2 .1 in
-    let f4 = f3 .1 in
-    let f5 = f4 .1 in
-    let f6 = f5 .1 in
-    let f7 = f6 .1 in
-    let f8 = f7 .1 in
-    let f9 = f8 .1 in
-    let f10 = f9 .1 in
-    record {
-      energy = v .energy e (kind .1);
-      pitch = v .pitch p (fit .1 .1 .0);
-      k = ten _ refl (v .k 0 k1 (f1 .0), (v .k 1 k2 (f2 .0), (v .k 2 k3 (f3 .0), (v .k 3 k4 (f4 .0), (v .k 4 k5 (f5 .0), (v .k 5 k6 (f6 .0), (v .k 6 k7 (f7 .0), (v .k 7 k8 (f8 .0), (v .k 8 k9 (f9 .0), (v .k 9 k10 (f10 .0), tt))))))))));
-    }
+    record { energy = v .energy e (kind .1); pitch = v .pitch p (fit .1 .1 .0); k = ten _ refl (search (v .k) depth 12) }

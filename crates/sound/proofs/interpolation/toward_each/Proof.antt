@@ -23,26 +23,22 @@ abbrev μ-loop : tie.MeasureT-loop
 ten : (s : tie.Start Inv-loop μ-loop) → length (zipWith (towardBy (2 ^ s .args .shift)) (s .args .t1) (s .args .t2)) ≡ 10
 ten s = zip-length _ (s .args .t1) (s .args .t2) (s .pre .0 .size ∙ sym (s .pre .1 .size)) ∙ s .pre .0 .size
 
-toward-requires : tie.Need-toward-requires Inv-loop μ-loop
-toward-requires c κs =
+pub toward-each-spec : {M : Type 1} → statement M
+toward-each-spec =
+    tie.close (tie.spec Inv-loop μ-loop
+    (λ c. (lit≤ tt, fill-none (c .pre .0 .size ∙ sym (ten c))))
+    (λ c. search needs) (λ c. search needs) (λ c. search needs) (λ c. search needs)
+    (λ c κs.
     let p = c .before .before .before .before .pre in
     let i = c .before .before .before .loop .i in
-    (passed tt (wider (p .0 .each i) tt tt), passed tt (wider (p .1 .each i) tt tt), p .2)
-
-loop-again : tie.Need-loop-again Inv-loop μ-loop
-loop-again c =
+    (passed tt (wider (p .0 .each i) tt tt), passed tt (wider (p .1 .each i) tt tt), p .2))
+    (λ c. search needs) (λ c. search needs) (λ c. search needs) (λ c. search needs)
+    (λ c.
     let l = c .before .before .before .before .loop in
     let s = c .before .before .before .before .before in
     let e = simp (read tt (s .pre .0 .each (l .i)), read tt (s .pre .1 .each (l .i))) at (c .toward .ensures) in (
       search needs,
       fill-more (l .i) (pos 0) _ (l .inv .1) (search (needs, ten s))
           (back (c .toward .result) (c .toward .ok) ∙ e ∙ zip-element _ (pos 0) (s .args .t1) (s .args .t2) (l .i) (search (needs, s .pre .0 .size)) (search (needs, s .pre .1 .size))),
-    )
-
-pub toward-each-spec : {M : Type 1} → statement M
-toward-each-spec =
-    tie.close (tie.spec Inv-loop μ-loop
-    (λ c. (lit≤ tt, fill-none (c .pre .0 .size ∙ sym (ten c))))
-    (λ c. search needs) (λ c. search needs) (λ c. search needs) (λ c. search needs) toward-requires
-    (λ c. search needs) (λ c. search needs) (λ c. search needs) (λ c. search needs) loop-again
+    ))
     (λ c. fill-all (c .before .loop .i) (c .before .loop .inv .1) (search (needs, ten (c .before .before)))))

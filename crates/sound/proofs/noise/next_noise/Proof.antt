@@ -5,9 +5,6 @@ use Rattle.sound.proofs.Taps.{tapped}
 use Rattle.sound.proofs.noise.next_noise.Statement.{statement}
 use Rattle.sound.proofs.noise.next_noise.Tie as tie
 
-returns : tie.Need-returns
-unfolding nextNoise
-returns c = simp tapped
-
 pub next-noise-spec : {M : Type 1} → statement M
-next-noise-spec = tie.close (tie.spec (λ c. search needs) (λ c. search needs) returns)
+unfolding nextNoise
+next-noise-spec = tie.close (tie.spec (λ c. search needs) (λ c. search needs) (λ c. simp tapped))

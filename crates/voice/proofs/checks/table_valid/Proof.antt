@@ -14,23 +14,16 @@ Inv-loop file table pitch-bits n valid₀ i₀ valid i = (i ≤ n) × (valid ≡
 abbrev μ-loop : tie.MeasureT-loop
 μ-loop file table pitch-bits n valid₀ i₀ valid i = n - i
 
-loop-holds : tie.Need-loop-holds Inv-loop μ-loop
+pub table-valid-spec : {M : Type 1} → statement M
 unfolding entriesValid
-loop-holds c = search needs
-
-loop-again : tie.Need-loop-again Inv-loop μ-loop
-loop-again c =
+table-valid-spec =
+    tie.close (tie.spec Inv-loop μ-loop (λ c κs. search needs) (λ c. search needs) (λ c κs. search needs)
+    (λ c κs. search needs) (λ c. search needs) (λ c. search needs)
+    (λ c.
     let b = c .before .before .before in
     let a = b .before .before .before .args in
-    (search needs, rw (entries-suc (a .pitch-bits) (a .file .now) (a .table) (b .loop .i), ← b .loop .inv .1, ← c .before .entry-within .ensures, ← c .entry-valid .ensures))
-
-returns : tie.Need-returns Inv-loop μ-loop
-returns c =
+    (search needs, rw (entries-suc (a .pitch-bits) (a .file .now) (a .table) (b .loop .i), ← b .loop .inv .1, ← c .before .entry-within .ensures, ← c .entry-valid .ensures)))
+    (λ c.
     let a = c .before .before .before .before .args in
     let h : c .before .loop .i ≡ entries (a .pitch-bits) (a .table) = search needs in
-    rw h at (c .before .loop .inv .1)
-
-pub table-valid-spec : {M : Type 1} → statement M
-table-valid-spec =
-    tie.close (tie.spec Inv-loop μ-loop (λ c κs. search needs) loop-holds (λ c κs. search needs)
-    (λ c κs. search needs) (λ c. search needs) (λ c. search needs) loop-again returns)
+    rw h at (c .before .loop .inv .1)))

@@ -16,11 +16,8 @@ low-part c = signed (search (needs, mod-le (c .args .n) (c .args .sign)))
 high-part : (c : tie.Start) → Between 0 65535 (pos (c .args .n / c .args .sign % 2 * c .args .sign))
 high-part c = signed (search (needs, sign-part (c .args .sign) (c .args .n)))
 
-returns : tie.Need-returns
-unfolding twosComplement
-returns c = simp (read tt (low-part c), read tt (high-part c), read tt (difference (low-part c) (high-part c)))
-
 pub twos-complement-spec : {M : Type 1} → statement M
+unfolding twosComplement
 twos-complement-spec =
     tie.close (tie.spec (λ c. search needs)
     (λ c. fits tt (low-part c))
@@ -28,4 +25,4 @@ twos-complement-spec =
     (λ c. search (needs, sign-part (c .args .sign) (c .args .n)))
     (λ c. fits tt (high-part c))
     (λ c. simp (read tt (low-part c), read tt (high-part c)) (fits tt (difference (low-part c) (high-part c))))
-    returns)
+    (λ c. simp (read tt (low-part c), read tt (high-part c), read tt (difference (low-part c) (high-part c)))))

@@ -2,7 +2,7 @@
 -- after i samples, and the buffer has these.
 -- Assumes nothing.
 use borrow.Author.Needs.{needs}
-use mathlib.Core.Path.{_≡_, ap, _∙_}
+use mathlib.Core.Path.{ap, _∙_}
 use Prim.Native.Nat.{_-_}
 use lib.IntN.{ℤ}
 use lib.ListN.{length}
@@ -11,7 +11,7 @@ use denote.Ref.{now}
 use Rattle.base.specs.Range.{Between}
 use Rattle.base.proofs.Range.{read, passed, back-at}
 use Rattle.base.proofs.Steps.{Filled, filled-none, filled-more, filled-all}
-use Rattle.sound.specs.Sample.{isVoiced, excitationOf, renewed, soundStep}
+use Rattle.sound.specs.Sample.{renewed, soundStep}
 use Rattle.sound.specs.declared.state.Sound.{Sound}
 use Rattle.sound.proofs.Samples.{excitation-range, step-is, sampled-ranges}
 use Rattle.sound.proofs.Validity.{SoundRanges, ranges}
@@ -25,27 +25,12 @@ Inv-loop self file out₀ pitch-bits current k voiced memory₀ noise₀ pulse�
 abbrev μ-loop : tie.MeasureT-loop
 μ-loop self file out₀ pitch-bits current k voiced memory₀ noise₀ pulse₀ i₀ out memory noise pulse i = length out₀ - i
 
-loop-holds : tie.Need-loop-holds Inv-loop μ-loop
-loop-holds c =
-    let s = c .before .before .before .before .before in
-    filled-none (soundStep (s .args .pitch-bits) (now (s .args .file))) SoundRanges (s .args .self) (now (s .args .out)) (ranges (s .args .self) (s .pre .0))
-
--- what `excitation` gives
-excited : (c : tie.After-excitation Inv-loop μ-loop) → let l = c .before .before .loop in let s = c .before .before .before .before .before .before .before .before in
-    c .excitation .result ≡ excitationOf (s .args .pitch-bits) (now (s .args .file)) (isVoiced (s .args .self)) (l .pulse) (l .noise)
-excited c = rw (c .before .before .before .before .is-voiced .ensures) at (c .excitation .ensures)
-
 excited-range : (c : tie.After-excitation Inv-loop μ-loop) → Between 128 127 (c .excitation .result)
 excited-range c =
     let l = c .before .before .loop in
-    let a = c .before .before .before .before .before .before .before .before .args in
-    rw (excited c) (excitation-range (a .pitch-bits) (now (a .file)) (isVoiced (a .self)) (l .pulse) (l .noise))
-
-filtered-requires : tie.Need-filtered-requires Inv-loop μ-loop
-filtered-requires c κs =
-    let x = c .before .before .before in
-    let ok = x .before .before .loop .inv .holds in
-    (ok .current .k, ok .memory, passed tt (ok .current .energy), passed tt (excited-range x))
+    let v = c .before .before .before .before in
+    let a = v .before .before .before .before .args in
+    rw (c .excitation .ensures) (excitation-range (a .pitch-bits) (now (a .file)) (v .is-voiced .result) (l .pulse) (l .noise))
 
 loop-again : tie.Need-loop-again Inv-loop μ-loop
 loop-again c =
@@ -54,7 +39,8 @@ loop-again c =
     let l = x .before .before .loop in
     let a = x .before .before .before .before .before .before .before .before .args in
     let ok = l .inv .holds in
-    let e = rw (excited x) at (simp (read tt (ok .current .energy), read tt (excited-range x)) at (v .ensures)) in
+    let e = simp (read tt (ok .current .energy), read tt (excited-range x)) at (v .ensures) in
+    let e = rw (x .excitation .ensures, x .before .before .before .before .is-voiced .ensures) at e in
     let u : Sound = renewed (l .memory) (l .noise) (l .pulse) (a .self) in
     let is =
     step-is (a .pitch-bits) (now (a .file)) u
@@ -66,14 +52,19 @@ loop-again c =
     }) in
     filled-more _ _ _ (l .inv) (search needs) is (rw (ap (λ (r : Sound × ℤ). r .0) is) (sampled-ranges (a .pitch-bits) (now (a .file)) u ok))
 
-returns : tie.Need-returns Inv-loop μ-loop
-returns c = rw (c .renew .ensures) (filled-all _ _ _ (c .before .before .loop .inv) (search needs))
-
 pub play-spec : {M : Type 1} → statement M
 play-spec =
-    tie.close (tie.spec Inv-loop μ-loop (λ c κs. search needs) loop-holds
+    tie.close (tie.spec Inv-loop μ-loop (λ c κs. search needs)
+    (λ c.
+    let s = c .before .before .before .before .before in
+    filled-none (soundStep (s .args .pitch-bits) (now (s .args .file))) SoundRanges (s .args .self) (now (s .args .out)) (ranges (s .args .self) (s .pre .0)))
     (λ c κs. c .before .before .before .before .before .before .before .pre .1)
-    filtered-requires (λ c. search needs) (λ c. search needs)
+    (λ c κs.
+    let x = c .before .before .before in
+    let ok = x .before .before .loop .inv .holds in
+    (ok .current .k, ok .memory, passed tt (ok .current .energy), passed tt (excited-range x)))
+    (λ c. search needs) (λ c. search needs)
     (λ c κs. search (needs, c .before .before .before .before .before .before .loop .inv .holds .noise-high))
     (λ c κs. c .before .before .before .before .before .before .before .before .loop .inv .holds .pulse)
-    (λ c. search needs) (λ c. search needs) loop-again (λ c κs. search needs) (λ c. search needs) returns)
+    (λ c. search needs) (λ c. search needs) loop-again (λ c κs. search needs) (λ c. search needs)
+    (λ c. rw (c .renew .ensures) (filled-all _ _ _ (c .before .before .loop .inv) (search needs))))

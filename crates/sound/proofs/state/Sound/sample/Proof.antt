@@ -1,11 +1,10 @@
 -- `sound::state::Sound::sample` meets its contract. Assumes nothing.
 use borrow.Author.Needs.{needs}
-use mathlib.Core.Path.{_≡_, _∙_}
+use mathlib.Core.Path.{_∙_}
 use mir.Syntax.{w16}
 use denote.Ref.{now}
 use Rattle.base.specs.Range.{Between}
 use Rattle.base.proofs.Range.{read, passed, back-at}
-use Rattle.sound.specs.Sample.{isVoiced, excitationOf}
 use Rattle.sound.proofs.Samples.{excitation-range, sampled-is}
 use Rattle.sound.proofs.Validity.{SoundRanges, ranges}
 use Rattle.sound.proofs.state.Sound.sample.Statement.{statement}
@@ -15,21 +14,11 @@ module _ (s : tie.Start) where
   ok : SoundRanges (s .args .self)
   ok = ranges (s .args .self) (s .pre .0)
 
--- what `excitation` gives
-excited : (c : tie.After-excitation) → let s = c .before .before .before .before .before .before in
-    c .excitation .result ≡ excitationOf (s .args .pitch-bits) (now (s .args .file)) (isVoiced (s .args .self)) (s .args .self .pulse) (s .args .self .noise)
-excited c = rw (c .before .is-voiced .ensures) at (c .excitation .ensures)
-
 excited-range : (c : tie.After-excitation) → Between 128 127 (c .excitation .result)
 excited-range c =
     let a = c .before .before .before .before .before .before .args in
-    rw (excited c) (excitation-range (a .pitch-bits) (now (a .file)) (isVoiced (a .self)) (a .self .pulse) (a .self .noise))
-
-filtered-requires : tie.Need-filtered-requires
-filtered-requires c κs =
-    let x = c .before .before .before in
-    let s = x .before .before .before .before .before .before in
-    (ok s .current .k, ok s .memory, passed tt (ok s .current .energy), passed tt (excited-range x))
+    rw (c .excitation .ensures)
+    (excitation-range (a .pitch-bits) (now (a .file)) (c .before .is-voiced .result) (a .self .pulse) (a .self .noise))
 
 returns : tie.Need-returns
 returns c =
@@ -37,7 +26,8 @@ returns c =
     let v = d .before .before .before .filtered in
     let x = d .before .before .before .before .before .before .before in
     let s = x .before .before .before .before .before .before in
-    let e = rw (excited x) at (simp (read tt (ok s .current .energy), read tt (excited-range x)) at (v .ensures)) in
+    let e = simp (read tt (ok s .current .energy), read tt (excited-range x)) at (v .ensures) in
+    let e = rw (x .excitation .ensures, x .before .is-voiced .ensures) at e in
     rw (c .renew .ensures)
     (sampled-is (s .args .pitch-bits) (now (s .args .file)) (s .args .self)
     (record {
@@ -49,7 +39,11 @@ returns c =
 
 pub sample-spec : {M : Type 1} → statement M
 sample-spec =
-    tie.close (tie.spec (λ c κs. search needs) (λ c κs. search needs) filtered-requires
+    tie.close (tie.spec (λ c κs. search needs) (λ c κs. search needs)
+    (λ c κs.
+    let x = c .before .before .before in
+    let s = x .before .before .before .before .before .before in
+    (ok s .current .k, ok s .memory, passed tt (ok s .current .energy), passed tt (excited-range x)))
     (λ c κs. search (needs, ok (c .before .before .before .before .before .before .before .before .before .before) .noise-high))
     (λ c κs. ok (c .before .before .before .before .before .before .before .before .before .before .before .before) .pulse)
     (λ c κs. search needs) returns)
