@@ -1,14 +1,12 @@
 -- What speaking a phrase returns, by whether its address, a byte that begins it or the run is refused.
 -- Assumes nothing.
 use mathlib.Core.Path.{_≡_, refl, sym, ap, _∙_}
-use mathlib.Core.Bool.{Bool, true, false}
 use mathlib.Core.List.{List}
 use Prim.Native.Nat.{ℕ}
-use borrow.Author.Tests.{eqb-true}
-use lib.Dec.{eqb, leb}
+use lib.Dec.{leb}
 use lib.IntN.{ℤ}
 use lib.ListN.{length}
-use Rattle.base.proofs.Faults.{answered, refused-with}
+use Rattle.base.proofs.Faults.{answered, refused-with, by-fault}
 use Rattle.rom.specs.Bits.{imageFault}
 use Rattle.chip.specs.State.{powerUp}
 use Rattle.chip.specs.Step.{stepFault, stepOf}
@@ -39,11 +37,9 @@ step-is image voice c r x = rw x (ap (λ (r : Stepped). (r .chip, r .sample)) r)
 -- a run of any length returns the number that a step would
 pub run-number : (image voice : List ℕ) (c : Chip) (n : ℕ) → runOf image voice c n .refusal ≡ stepFault image voice c
 unfolding runOf
-run-number image voice c n = by-fault (eqb (stepFault image voice c) 0) refl
-  where
-    by-fault : (t : Bool) → eqb (stepFault image voice c) 0 ≡ t → runOf image voice c n .refusal ≡ stepFault image voice c
-    by-fault true t = rw t (sym (eqb-true _ _ t))
-    by-fault false t = rw t
+run-number image voice c n =
+    by-fault (λ (r : Ran). r .refusal ≡ stepFault image voice c) (stepFault image voice c)
+    (λ (r : ℕ). record { chip = c; refusal = r }) _ (λ h. sym h) (λ h. refl)
 
 module _ (image voice : List ℕ) (a : ℕ) (out : List ℤ) {g : Given} (e : g ≡ begun image a) where
   number : g .refusal ≡ begun image a .refusal

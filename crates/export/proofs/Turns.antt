@@ -1,7 +1,6 @@
 -- External speech by turns: a turn more, the end, and what a refused Speak External returns.
 -- Assumes nothing.
 use mathlib.Core.Path.{_≡_, refl, sym, ap, ap₂, _∙_}
-use mathlib.Core.Bool.{Bool, true, false, cond}
 use mathlib.Core.List.{List, _++_, append-assoc}
 use Prim.Native.Nat.{ℕ, suc, _+_, _-_, _≤_, _<_}
 use native.Mathlib.Nat.{sub-zero}
@@ -11,7 +10,7 @@ use lib.Dec.{eqb}
 use lib.IntN.{ℤ}
 use lib.ListN.{length, take, drop, length-append, take-append-drop}
 use lib.Seq.{take-at, drop-drop, length-take-le}
-use Rattle.base.specs.Steps.{outputs}
+use Rattle.base.proofs.Booleans.{by-test}
 use Rattle.base.proofs.Steps.{outputs-length}
 use Rattle.rom.specs.Frames.{pitchBits}
 use Rattle.voice.specs.Check.{voiceFault, version}
@@ -24,22 +23,13 @@ use Rattle.export.specs.Types.{Given, Fed}
 use Rattle.export.specs.Feed.{turn, turns, filled, turnOf, turned, fedFault, fedInto, external, started, externalFault, externalInto}
 use Rattle.export.proofs.Beginnings.{begin-refused, begin-taken}
 
--- a whole turn less
-one-less : (n i : ℕ) → turn ≤ n - i → suc (turns (n - (i + turn))) ≡ turns (n - i)
-one-less n i h = omega arith
-
-none-left : (n i : ℕ) → n - i < turn → turns (n - i) ≡ 0
-none-left n i h = omega arith
-
 module _ (image voice : List ℕ) where
   -- a run keeps the buffer's length
   buffer-length : (c : Chip) (out : List ℤ) → length (bufferOf image voice c out) ≡ length out
   unfolding bufferOf
-  buffer-length c out = by-fault (eqb (stepFault image voice c) 0)
-    where
-      by-fault : (t : Bool) → length (cond t (outputs (sampleStep image voice) (length out) c) out) ≡ length out
-      by-fault true = outputs-length (sampleStep image voice) (length out) c
-      by-fault false = refl
+  buffer-length c out =
+      by-test (λ (l : List ℤ). length l ≡ length out) (eqb (stepFault image voice c) 0)
+      (λ e. outputs-length (sampleStep image voice) (length out) c) (λ e. refl)
 
 module _ (image voice bytes : List ℕ) where
   pub turn-is : {g : Given} {r : Ran} {new : List ℤ} (s : Fed) (out : List ℤ) → g ≡ filled image voice bytes s
@@ -74,7 +64,7 @@ module _ (image voice bytes : List ℕ) where
           let next : t ≡ turnOf image voice bytes turn s = a ∙ ap (λ (j : ℕ). turnOf image voice bytes j s) (many ∙ k) in
           let made : ys ≡ turned image voice bytes s (take turn (drop i out)) = y ∙ ap (λ (j : ℕ). turned image voice bytes s (take j (drop i out))) k in
           let long : length ys ≡ e - i = ap length y ∙ buffer-length image voice (filled image voice bytes s .chip) (midOf i (e - i) out) ∙ many in
-          let left : suc (turns (n - e)) ≡ turns (n - i) = ap (λ (j : ℕ). suc (turns (n - j))) at ∙ one-less n i room in
+          let left : suc (turns (n - e)) ≡ turns (n - i) = omega arith in
           let first : take e (putMid i (e - i) out ys) ≡ take i out ++ ys =
           ap (take e) (sym (append-assoc (take i out) ys _))
           ∙ take-at (take i out ++ ys) _ e (length-append (take i out) ys ∙ ap₂ _+_ (length-take-le i out (omega (arith, h .size, h .within))) long ∙ omega arith) in
@@ -96,7 +86,7 @@ module _ (image voice bytes : List ℕ) where
           × (out ≡ fedInto image voice bytes (turns (length out₀)) s₀ out₀)
       unfolding fedFault fedInto
       turning-all l =
-          let none : 0 ≡ turns (length out₀ - i) = sym (none-left (length out₀) i l) in (
+          let none : 0 ≡ turns (length out₀ - i) = omega arith in (
             ap (λ (j : ℕ). fedFault image voice bytes j s) none ∙ h .fault,
             sym (take-append-drop i out) ∙ ap (λ (j : ℕ). take i out ++ fedInto image voice bytes j s (drop i out)) none ∙ h .written,
           )

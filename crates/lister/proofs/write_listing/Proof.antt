@@ -1,6 +1,5 @@
 -- `lister::write_listing` is safe. Assumes nothing.
 use borrow.Author.Needs.{needs}
-use mathlib.Core.Path.{sym}
 use lib.ListN.{length-take}
 use lib.Seq.{length-take-le}
 use Rattle.lister.specs.Text.{contents}
@@ -14,5 +13,5 @@ array-share-prefix-bytes c = rw (c .before .size .ensures, length-take) (search 
 pub write-listing-spec : {M : Type 1} → statement M
 write-listing-spec =
     tie.close (tie.spec (λ c κs. search needs) (λ c κs. search needs) array-share-prefix-bytes
-    (λ c. sym (length-take-le _ _ (array-share-prefix-bytes (c .before))))
+    (λ c. search (length-take-le, array-share-prefix-bytes (c .before)))
     (λ c κs. search needs) (λ c. search needs) (λ c κs. search needs) (λ c. search needs))

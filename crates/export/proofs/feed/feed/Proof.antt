@@ -4,7 +4,6 @@ use borrow.Author.Needs.{needs}
 use mathlib.Core.Path.{refl}
 use Prim.Native.Nat.{_-_}
 use lib.ListN.{length}
-use denote.Ref.{now}
 use Rattle.export.proofs.Turns.{Turning, turning-none, turning-more, turning-all}
 use Rattle.export.proofs.feed.feed.Statement.{statement}
 use Rattle.export.proofs.feed.feed.Tie as tie
@@ -17,13 +16,8 @@ abbrev μ-loop : tie.MeasureT-loop
 
 loop-again : tie.Need-loop-again Inv-loop μ-loop
 loop-again c =
-    let a = c .before .before .before .before .before .before .before .before .args in
-    let l = c .before .before .before .before .loop in
     let t = c .before .turn .ensures in
-    turning-more (now (a .image)) (now (a .voice)) (now (a .bytes)) _ _ (l .inv) _ (search needs) refl (t .0) (t .1)
-
-returns : tie.Need-returns Inv-loop μ-loop
-returns c = turning-all _ _ _ _ _ (c .before .loop .inv) (search needs)
+    turning-more _ _ _ _ _ (c .before .before .before .before .loop .inv) _ (search needs) refl (t .0) (t .1)
 
 pub feed-spec : {M : Type 1} → statement M
 feed-spec =
@@ -34,4 +28,5 @@ feed-spec =
     (λ c. search (needs, c .before .before .before .before .before .good .1 .1 .1 .1 .0 .1))
     (λ c. search needs) (λ c. search needs)
     (λ c. search (needs, c .before .loop .inv .size, c .before .loop .inv .within))
-    (λ c κs. search needs) (λ c. search needs) loop-again (λ c. search needs) returns)
+    (λ c κs. search needs) (λ c. search needs) loop-again (λ c. search needs)
+    (λ c. turning-all _ _ _ _ _ (c .before .loop .inv) (search needs)))

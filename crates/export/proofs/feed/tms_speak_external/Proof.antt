@@ -14,26 +14,18 @@ written : (c : tie.After-write) → let a = c .before .before .before .before .b
     c .write .result ≡ external (now (a .image)) (now (a .voice)) (now (a .bytes))
 written c = c .write .ensures ∙ ap (λ (k : Chip). writeOf (now (c .before .before .before .before .before .args .image)) k 96) (c .before .power-up .ensures)
 
-returns : tie.Need-returns
-returns c =
-    let a = c .before .before .before .before .before .before .args in
-    external-refused (now (a .image)) (now (a .voice)) (now (a .bytes)) (now (a .out)) (written (c .before)) (c .if1 .taken)
-
 returns-2 : tie.Need-returns-2
 returns-2 c =
     let w = c .before .before .before in
-    let a = w .before .before .before .before .before .args in
-    voice-refused (now (a .image)) (now (a .voice)) (now (a .bytes)) (now (a .out)) (written w) (c .before .voice-check .ensures) (c .before .before .if1 .left) (c .if2 .taken)
-
-returns-3 : tie.Need-returns-3
-returns-3 c =
-    let v = c .before .before .before .before .before in
-    let w = v .before .before in
-    let a = w .before .before .before .before .before .args in
-    let f = c .before .feed .ensures in
-    external-fed (now (a .image)) (now (a .voice)) (now (a .bytes)) (now (a .out)) (written w) (v .voice-check .ensures) (v .before .if1 .left) (c .before .before .before .before .if2 .left) (f .0) (f .1)
+    voice-refused _ _ _ _ (written w) (c .before .voice-check .ensures) (c .before .before .if1 .left) (c .if2 .taken)
 
 pub tms-speak-external-spec : {M : Type 1} → statement M
 tms-speak-external-spec =
-    tie.close (tie.spec (λ c κs. search needs) (λ c κs. search needs) returns (λ c κs. search needs) returns-2
-    (λ c κs. search needs) (λ c. search needs) returns-3)
+    tie.close (tie.spec (λ c κs. search needs) (λ c κs. search needs)
+    (λ c. external-refused _ _ _ _ (written (c .before)) (c .if1 .taken))
+    (λ c κs. search needs) returns-2 (λ c κs. search needs) (λ c. search needs)
+    (λ c.
+    let v = c .before .before .before .before .before in
+    let w = v .before .before in
+    let f = c .before .feed .ensures in
+    external-fed _ _ _ _ (written w) (v .voice-check .ensures) (v .before .if1 .left) (c .before .before .before .before .if2 .left) (f .0) (f .1)))

@@ -1,6 +1,5 @@
 -- `export::feed::turn` meets its contract. Assumes nothing.
 use borrow.Author.Needs.{needs}
-use denote.Ref.{now}
 use Rattle.export.proofs.Turns.{turn-is}
 use Rattle.export.proofs.feed.turn.Statement.{statement}
 use Rattle.export.proofs.feed.turn.Tie as tie
@@ -9,6 +8,5 @@ pub turn-spec : {M : Type 1} → statement M
 turn-spec =
     tie.close (tie.spec (λ c κs. search needs) (λ c κs. search needs) (λ c. search needs)
     (λ c.
-    let a = c .before .before .before .before .before .before .before .before .before .before .args in
     let r = c .before .before .run .ensures in
-    turn-is (now (a .image)) (now (a .voice)) (now (a .bytes)) (a .fed) (now (a .out)) (c .before .before .before .before .before .give .ensures) (r .0) (r .1)))
+    turn-is _ _ _ _ _ (c .before .before .before .before .before .give .ensures) (r .0) (r .1)))

@@ -4,7 +4,6 @@ use borrow.Author.Needs.{needs}
 use mathlib.Core.Path.{_≡_, refl, _∙_}
 use Prim.Native.Nat.{_-_}
 use lib.ListN.{length, drop}
-use denote.Ref.{now}
 use Rattle.export.specs.Giving.{given}
 use Rattle.export.proofs.Bytewise.{given-none, given-refused, given-more}
 use Rattle.export.proofs.giving.give.Statement.{statement}
@@ -17,27 +16,14 @@ Inv-loop image bytes from chip₀ next₀ chip next =
 abbrev μ-loop : tie.MeasureT-loop
 μ-loop image bytes from chip₀ next₀ chip next = length bytes - next
 
-returns : tie.Need-returns Inv-loop μ-loop
-returns c =
-    let l = c .before .before .before .before .before .loop in
-    let a = c .before .before .before .before .before .before .before .before .args in
-    given-refused (now (a .image)) (l .chip) (now (a .bytes)) (l .next) (search needs) (c .before .before .write .ensures) (c .if1 .taken)
-    ∙ l .inv
-
-loop-again : tie.Need-loop-again Inv-loop μ-loop
-loop-again c =
-    let l = c .before .before .before .before .before .loop in
-    let a = c .before .before .before .before .before .before .before .before .args in
-    given-more (now (a .image)) (l .chip) (now (a .bytes)) (l .next) (search needs) (c .before .before .write .ensures) (c .if1 .left)
-    ∙ l .inv
-
-returns-2 : tie.Need-returns-2 Inv-loop μ-loop
-returns-2 c =
-    let l = c .before .loop in
-    let a = c .before .before .before .before .args in
-    given-none (now (a .image)) (l .chip) (now (a .bytes)) (l .next) (search needs) ∙ l .inv
-
 pub give-spec : {M : Type 1} → statement M
 give-spec =
-    tie.close (tie.spec Inv-loop μ-loop (λ c. refl) (λ c. search needs) (λ c κs. search needs) returns
-    (λ c. search needs) (λ c. search needs) loop-again returns-2)
+    tie.close (tie.spec Inv-loop μ-loop (λ c. refl) (λ c. search needs) (λ c κs. search needs)
+    (λ c.
+    given-refused _ _ _ _ (search needs) (c .before .before .write .ensures) (c .if1 .taken)
+    ∙ c .before .before .before .before .before .loop .inv)
+    (λ c. search needs) (λ c. search needs)
+    (λ c.
+    given-more _ _ _ _ (search needs) (c .before .before .write .ensures) (c .if1 .left)
+    ∙ c .before .before .before .before .before .loop .inv)
+    (λ c. given-none _ _ _ _ (search needs) ∙ c .before .loop .inv))

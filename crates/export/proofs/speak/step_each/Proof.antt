@@ -3,7 +3,6 @@
 use borrow.Author.Needs.{needs}
 use Prim.Native.Nat.{_-_}
 use lib.ListN.{length}
-use denote.Ref.{now}
 use Rattle.base.proofs.Steps.{Filled, filled-none, filled-more, filled-all}
 use Rattle.chip.specs.declared.state.Chip.{Chip}
 use Rattle.chip.specs.Run.{sampleStep}
@@ -19,12 +18,8 @@ abbrev μ-loop : tie.MeasureT-loop
 
 loop-again : tie.Need-loop-again Inv-loop μ-loop
 loop-again c =
-    let a = c .before .before .before .before .before .before .before .args in
     let l = c .before .before .before .before .loop in
-    filled-more _ _ _ (l .inv) (search needs) (step-is (now (a .image)) (now (a .voice)) (l .chip) (c .before .before .step .ensures .0) (search needs)) tt
-
-returns : tie.Need-returns Inv-loop μ-loop
-returns c = filled-all _ _ _ (c .before .loop .inv) (search needs) .1
+    filled-more _ _ _ (l .inv) (search needs) (step-is _ _ _ (c .before .before .step .ensures .0) (search needs)) tt
 
 pub step-each-spec : {M : Type 1} → statement M
 step-each-spec =
@@ -34,4 +29,5 @@ step-each-spec =
     (λ c. search (needs, c .before .before .before .before .before .before .good .1 .1 .1 .0 .1))
     (λ c. search needs)
     (λ c. search (needs, c .before .before .before .before .before .before .before .good .1 .1 .1 .0 .0))
-    (λ c. search needs) loop-again (λ c. search needs) returns)
+    (λ c. search needs) loop-again (λ c. search needs)
+    (λ c. filled-all _ _ _ (c .before .loop .inv) (search needs) .1))

@@ -17,7 +17,6 @@ with-kind-spec =
     (λ c. rw (c .before .before .match .keys4) (c .with-word4 .ensures))
     (λ c. rw (c .before .before .match .keys5) (c .with-word5 .ensures))
     (λ c.
-    let k = c .before .before .before .args .kind in
     let r = c .before .before .match .rest in
-    rw (ne-eqb k 1 (r .0 .0 .0 .0 .1), ne-eqb k 2 (r .0 .0 .0 .1), ne-eqb k 3 (r .0 .0 .1), ne-eqb k 4 (r .0 .1), ne-eqb k 5 (r .1))
+    rw (ne-eqb _ 1 (r .0 .0 .0 .0 .1), ne-eqb _ 2 (r .0 .0 .0 .1), ne-eqb _ 3 (r .0 .0 .1), ne-eqb _ 4 (r .0 .1), ne-eqb _ 5 (r .1))
     (c .with-word6 .ensures)))
