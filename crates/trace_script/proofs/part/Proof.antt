@@ -6,17 +6,13 @@ use Rattle.trace_script.proofs.part.Statement.{statement}
 use Rattle.trace_script.proofs.part.Tie as tie
 
 returns : tie.Need-returns
-returns c = let a = c .before .before .args in rw (lt-leb (a .from) (a .end) (c .before .if1 .taken))
+returns c = let a = c .before .before .args in rw (lt-leb _ _ (c .before .if1 .taken))
 
 returns-2 : tie.Need-returns-2
-returns-2 c =
-    let a = c .before .before .before .args in
-    rw (le-leb (a .from) (a .end) (c .before .before .if1 .left), lt-leb (a .end) (length (a .script .now)) (c .before .if2 .taken))
+returns-2 c = rw (le-leb _ _ (c .before .before .if1 .left), lt-leb _ (length _) (c .before .if2 .taken))
 
 returns-3 : tie.Need-returns-3
-returns-3 c =
-    let a = c .before .before .before .args in
-    rw (le-leb (a .from) (a .end) (c .before .before .if1 .left), le-leb (a .end) (length (a .script .now)) (c .before .if2 .left))
+returns-3 c = rw (le-leb _ _ (c .before .before .if1 .left), le-leb _ (length _) (c .before .if2 .left))
 
 pub part-spec : {M : Type 1} → statement M
 part-spec =

@@ -59,24 +59,22 @@ end-saturated (negsuc n) h e =
     rw (below-zero n h) (sym (cond-true (ltZ (negsuc n) memoryMin) memoryMin (negsuc n) (not-false _ (sym (and-true _) ∙ e))))
 
 index-small : (c : tie.Else1) → natAbs (raised (c .before .before .args .z)) / sumLimit < 2
-index-small c = search (needs, raised-small (c .before .before .args .z) (c .before .before .pre) .1)
+index-small c = search (needs, raised-small _ (c .before .before .pre) .1)
 
 pub saturate-spec : {M : Type 1} → statement M
 saturate-spec =
     tie.close (tie.spec (λ c κs. search needs)
     (λ c.
-    let s = c .before .before in
-    let h = s .pre in
+    let h = c .before .before .pre in
     let i = simp (read tt h) at (c .before .is-inside .ensures) in
-    read tt h ∙ inside-saturated (s .args .z) (sym i ∙ c .if1 .taken))
+    read tt h ∙ inside-saturated _ (sym i ∙ c .if1 .taken))
     (λ c. let h = c .before .before .pre in simp (read tt h) (fits tt (raised-range _ h)))
-    (λ c. let h = c .before .before .pre in let r = raised-small (c .before .before .args .z) h in simp (read tt h, read tt (raised-range _ h)) (r .0, search (needs, r .1)))
+    (λ c. let h = c .before .before .pre in let r = raised-small _ h in simp (read tt h, read tt (raised-range _ h)) (r .0, search (needs, r .1)))
     (λ c. search needs) (λ c. search needs)
     (λ c. let h = c .before .before .pre in simp (read tt h, read tt (raised-range _ h)) (search (needs, index-small c)))
     (λ c. let h = c .before .before .pre in simp (read tt h, read tt (raised-range _ h)) (index-small c))
     (λ c.
-    let s = c .before .before .before in
-    let h = s .pre in
+    let h = c .before .before .before .pre in
     let i = simp (read tt h) at (c .before .before .is-inside .ensures) in
-    simp (read tt h, read tt (raised-range (s .args .z) h))
-    (rw (end-saturated (s .args .z) h (sym i ∙ c .before .if1 .left)) (read tt (saturated-range (s .args .z))))))
+    simp (read tt h, read tt (raised-range _ h))
+    (rw (end-saturated _ h (sym i ∙ c .before .if1 .left)) (read tt (saturated-range _)))))

@@ -22,8 +22,7 @@ pub +with-number-spec : {M : Type 1} → statement M
     (λ c. search needs) (λ c. search needs) (λ c κs. search needs)
     (λ c κs. (search needs, tt))
     (λ c κs. search needs)
-    (λ c. rw (decimal-one (c .before .before .args .n) (c .before .if1 .taken)) (c .with-byte .ensures))
+    (λ c. rw (decimal-one _ (c .before .if1 .taken)) (c .with-byte .ensures))
     (λ c.
-    let a = c .before .before .before .args in
-    rw (decimal-more (a .n) (c .before .before .if1 .left))
-    (c .with-byte2 .ensures ∙ appended-twice (a .t) (c .before .with-number .result) _ _ (c .before .with-number .ensures))))
+    rw (decimal-more _ (c .before .before .if1 .left))
+    (c .with-byte2 .ensures ∙ appended-twice _ (c .before .with-number .result) _ _ (c .before .with-number .ensures))))

@@ -43,7 +43,7 @@ loop-again c =
     let e = rw (x .excitation .ensures, x .before .before .before .before .is-voiced .ensures) at e in
     let u : Sound = renewed (l .memory) (l .noise) (l .pulse) (a .self) in
     let is =
-    step-is (a .pitch-bits) (now (a .file)) u
+    step-is _ _ u
     (record {
       value = back-at w16 (v .result) (v .ok) ∙ e .0;
       memory = e .1;
@@ -55,9 +55,7 @@ loop-again c =
 pub play-spec : {M : Type 1} → statement M
 play-spec =
     tie.close (tie.spec Inv-loop μ-loop (λ c κs. search needs)
-    (λ c.
-    let s = c .before .before .before .before .before in
-    filled-none (soundStep (s .args .pitch-bits) (now (s .args .file))) SoundRanges (s .args .self) (now (s .args .out)) (ranges (s .args .self) (s .pre .0)))
+    (λ c. filled-none (soundStep _ _) SoundRanges _ _ (ranges _ (c .before .before .before .before .before .pre .0)))
     (λ c κs. c .before .before .before .before .before .before .before .pre .1)
     (λ c κs.
     let x = c .before .before .before in
