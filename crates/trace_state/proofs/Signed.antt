@@ -5,10 +5,9 @@ use mathlib.Core.Bool.{Bool, true, false}
 use mathlib.Core.List.{List, [], _∷_, map}
 use Prim.Native.Nat.{ℕ, suc, _%_, _^_, _≤_, _<_}
 use native.Mathlib.Omega.{arith}
-use lib.Dec.{T}
 use lib.IntN.{ℤ, pos, negsuc, negℤ, natAbs}
 use lib.ListN.{getD}
-use lib.Signed.{ltZ, nonNeg}
+use lib.Signed.{ltZ}
 use borrow.Author.Tests.{ltb-true}
 use Rattle.base.specs.Range.{Between, clamped}
 use Rattle.base.proofs.Range.{not-less, is-not-less, ordered}
@@ -22,20 +21,13 @@ pub negative-is : (z : ℤ) (most : ℕ) → ltZ z (pos 0) ≡ true → 0 ≡ na
 negative-is (pos n) most e = absurd (omega (arith, ltb-true n 0 e))
 negative-is (negsuc n) most e = refl
 
-module _ (z : ℤ) (most : ℕ) (e : ltZ z (pos 0) ≡ false) where
-  pub low-is : natAbs z < most → natAbs z ≡ natural most z
-  low-is h = of z (not-negative z e) h
-    where
-      of : (z : ℤ) → T (nonNeg z) → natAbs z < most → natAbs z ≡ natural most z
-      of (pos n) t h = omega arith
-      of (negsuc n) t h = absurd t
+pub low-is : (z : ℤ) (most : ℕ) → ltZ z (pos 0) ≡ false → natAbs z < most → natAbs z ≡ natural most z
+low-is (pos n) most e h = omega arith
+low-is (negsuc n) most e h = absurd (not-negative (negsuc n) e)
 
-  pub high-is : most ≤ natAbs z → most ≡ natural most z
-  high-is h = of z (not-negative z e) h
-    where
-      of : (z : ℤ) → T (nonNeg z) → most ≤ natAbs z → most ≡ natural most z
-      of (pos n) t h = omega arith
-      of (negsuc n) t h = absurd t
+pub high-is : (z : ℤ) (most : ℕ) → ltZ z (pos 0) ≡ false → most ≤ natAbs z → most ≡ natural most z
+high-is (pos n) most e h = omega arith
+high-is (negsuc n) most e h = absurd (not-negative (negsuc n) e)
 
 -- ---- 16 bits
 

@@ -17,26 +17,20 @@ Inv-loop numbers bytes₀ i₀ bytes i = (i ≤ 16) × (length numbers ≡ state
 abbrev μ-loop : tie.MeasureT-loop
 μ-loop numbers bytes₀ i₀ bytes i = 16 - i
 
-loop-holds : tie.Need-loop-holds Inv-loop μ-loop
-loop-holds c =
+pub bytes-of-spec : {M : Type 1} → statement M
+bytes-of-spec =
+    tie.close (tie.spec Inv-loop μ-loop
+    (λ c.
     let n : length (c .args .numbers) ≡ stateLength = search needs in
-    (search needs, n, fill-none (sym (part-length (natural 255) 8 16 (c .args .numbers) (search (needs, n)))))
-
-loop-again : tie.Need-loop-again Inv-loop μ-loop
-loop-again c =
+    (search needs, n, fill-none (sym (part-length (natural 255) 8 16 (c .args .numbers) (search (needs, n))))))
+    (λ c. search needs) (λ c κs. search needs) (λ c. search needs) (λ c. search needs) (λ c. search needs)
+    (λ c.
     let l = c .before .before .loop in
     let s = c .before .before .before in
     let n = part-length (natural 255) 8 16 (s .args .numbers) (search (needs, l .inv .1)) in
     let e = part-element (natural 255) 8 16 (s .args .numbers) (l .i) (pos 0) (search needs) in
-    (search needs, l .inv .1, fill-more (l .i) 0 _ (l .inv .2) (search (needs, n)) (c .byte-at .ensures ∙ e))
-
-returns : tie.Need-returns Inv-loop μ-loop
-returns c =
+    (search needs, l .inv .1, fill-more (l .i) 0 _ (l .inv .2) (search (needs, n)) (c .byte-at .ensures ∙ e)))
+    (λ c.
     let v = c .before .loop .inv in
     let n = part-length (natural 255) 8 16 (c .before .before .args .numbers) (search (needs, v .1)) in
-    fill-all (c .before .loop .i) (v .2) (search (needs, n))
-
-pub bytes-of-spec : {M : Type 1} → statement M
-bytes-of-spec =
-    tie.close (tie.spec Inv-loop μ-loop loop-holds (λ c. search needs) (λ c κs. search needs) (λ c. search needs)
-    (λ c. search needs) (λ c. search needs) loop-again returns)
+    fill-all (c .before .loop .i) (v .2) (search (needs, n))))

@@ -27,24 +27,19 @@ loop-holds c =
     let n : length (c .args .t1) ≡ stateLength = search needs in
     (search needs, n, fill-none (sym (part-length short (c .args .at) 10 (c .args .t1) (search (needs, n)))))
 
-loop-again : tie.Need-loop-again Inv-loop μ-loop
-loop-again c =
+pub shorts-of-spec : {M : Type 1} → statement M
+shorts-of-spec =
+    tie.close (tie.spec Inv-loop μ-loop loop-holds (λ c. search needs) (λ c. search needs) (λ c. search needs)
+    (λ c κs. search needs) (λ c. search needs) (λ c. search needs) (λ c. search needs) (λ c. search needs)
+    (λ c.
     let l = c .before .before .before .loop in
     let s = c .before .before .before .before in
     let z : SFits w64 (getD (s .args .t1) (s .args .at + l .i) (pos 0)) = search (each-fits w64, s .good) in
     let n = part-length short (s .args .at) 10 (s .args .t1) (search (needs, l .inv .1)) in
     let e = part-element short (s .args .at) 10 (s .args .t1) (l .i) (pos 0) (search needs) in
     let v = back (c .short .result) (c .short .ok) ∙ (simp (toZ-ofZ, z) at (c .short .ensures)) ∙ e in
-    (search needs, l .inv .1, fill-more (l .i) (short (pos 0)) _ (l .inv .2) (search (needs, n)) v)
-
-returns : tie.Need-returns Inv-loop μ-loop
-returns c =
+    (search needs, l .inv .1, fill-more (l .i) (short (pos 0)) _ (l .inv .2) (search (needs, n)) v))
+    (λ c.
     let v = c .before .loop .inv in
     let n = part-length short (c .before .before .args .at) 10 (c .before .before .args .t1) (search (needs, v .1)) in
-    fill-all (c .before .loop .i) (v .2) (search (needs, n))
-
-pub shorts-of-spec : {M : Type 1} → statement M
-shorts-of-spec =
-    tie.close (tie.spec Inv-loop μ-loop loop-holds (λ c. search needs) (λ c. search needs) (λ c. search needs)
-    (λ c κs. search needs) (λ c. search needs) (λ c. search needs) (λ c. search needs) (λ c. search needs) loop-again
-    returns)
+    fill-all (c .before .loop .i) (v .2) (search (needs, n))))

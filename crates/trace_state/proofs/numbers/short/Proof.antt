@@ -11,21 +11,15 @@ between c =
     let f = c .before .before .fits .z in
     short-between _ (simp (toZ-ofZ, f) at (c .before .if1 .left)) (simp (toZ-ofZ, f) at (c .if2 .left))
 
-returns : tie.Need-returns
-unfolding clamped
-returns c = simp (simp (toZ-ofZ, c .before .fits .z) at (c .if1 .taken))
-
-returns-2 : tie.Need-returns-2
-unfolding clamped
-returns-2 c =
-    let f = c .before .before .fits .z in
-    simp (simp (toZ-ofZ, f) at (c .before .if1 .left), simp (toZ-ofZ, f) at (c .if2 .taken))
-
-returns-3 : tie.Need-returns-3
-unfolding clamped
-returns-3 c =
-    let f = c .before .before .fits .z in
-    simp (toZ-ofZ, f, read tt (between c), simp (toZ-ofZ, f) at (c .before .if1 .left), simp (toZ-ofZ, f) at (c .if2 .left))
-
 pub short-spec : {M : Type 1} → statement M
-short-spec = tie.close (tie.spec (λ c. simp (toZ-ofZ, c .before .before .fits .z) (fits tt (between c))) returns returns-2 returns-3)
+unfolding clamped
+short-spec =
+    tie.close (tie.spec
+    (λ c. simp (toZ-ofZ, c .before .before .fits .z) (fits tt (between c)))
+    (λ c. simp (simp (toZ-ofZ, c .before .fits .z) at (c .if1 .taken)))
+    (λ c.
+    let f = c .before .before .fits .z in
+    simp (simp (toZ-ofZ, f) at (c .before .if1 .left), simp (toZ-ofZ, f) at (c .if2 .taken)))
+    (λ c.
+    let f = c .before .before .fits .z in
+    simp (toZ-ofZ, f, read tt (between c), simp (toZ-ofZ, f) at (c .before .if1 .left), simp (toZ-ofZ, f) at (c .if2 .left))))

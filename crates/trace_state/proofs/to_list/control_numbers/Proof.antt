@@ -3,12 +3,10 @@ use borrow.Author.Needs.{needs}
 use Rattle.trace_state.proofs.to_list.control_numbers.Statement.{statement}
 use Rattle.trace_state.proofs.to_list.control_numbers.Tie as tie
 
-returns : tie.Need-returns
-returns c =
-    let m = c .before .before .before .before .before .before .mode-number in
-    rw (m .ensures, c .before .before .before .before .flag .ensures, c .before .before .flag2 .ensures)
-
 pub control-numbers-spec : {M : Type 1} → statement M
 control-numbers-spec =
     tie.close (tie.spec (λ c κs. search needs) (λ c. search needs) (λ c κs. search needs) (λ c. search needs)
-    (λ c κs. search needs) (λ c. search needs) (λ c. search needs) returns)
+    (λ c κs. search needs) (λ c. search needs) (λ c. search needs)
+    (λ c.
+    let m = c .before .before .before .before .before .before .mode-number in
+    rw (m .ensures, c .before .before .before .before .flag .ensures, c .before .before .flag2 .ensures)))

@@ -17,43 +17,31 @@ module _ (s : tie.Start) where
   target : length (s .args .chip .sound .target .k) ≡ 10
   target = search needs
 
-returns : tie.Need-returns
-returns c =
-    let s = c .before .before .before .before .before in
-    returned (c .wide .ok) ((rw (c .before .control-numbers .ensures) at (c .wide .ensures)) ∙ control-is (s .args .chip) (s .args .i) (search needs))
-
-returns-2 : tie.Need-returns-2
-returns-2 c =
-    let s = c .before .before .before .before .before .before in
-    returned (c .wide2 .ok) (c .wide2 .ensures ∙ bytes-is (s .args .chip) (sixteen s) (s .args .i) (search needs) (search needs))
-
-returns-3 : tie.Need-returns-3
-returns-3 c =
-    let s = c .before .before .before .before .before .before .before .before in
-    returned (c .wide3 .ok)
-    ((rw (c .before .clock-numbers .ensures) at (c .wide3 .ensures)) ∙ clock-is (s .args .chip) (sixteen s) (s .args .i) (search needs) (search needs))
-
-returns-4 : tie.Need-returns-4
-returns-4 c =
-    let s = c .before .before .before .before .before .before .before .before in
-    returned (c .param-number .ok)
-    (c .param-number .ensures ∙ current-is (s .args .chip) (sixteen s) (current s) (s .args .i) (search needs) (search needs))
-
-returns-5 : tie.Need-returns-5
-returns-5 c =
-    let s = c .before .before .before .before .before .before .before .before .before in
-    returned (c .param-number2 .ok)
-    (c .param-number2 .ensures ∙ target-is (s .args .chip) (sixteen s) (current s) (target s) (s .args .i) (search needs) (search needs))
-
-returns-6 : tie.Need-returns-6
-returns-6 c =
-    let s = c .before .before .before .before .before .before .before .before .before in
-    returned (c .ten-number .ok)
-    (c .ten-number .ensures ∙ memory-is (s .args .chip) (sixteen s) (current s) (target s) (s .args .i) (search needs))
-
 pub field-spec : {M : Type 1} → statement M
 field-spec =
-    tie.close (tie.spec (λ c κs. search needs) (λ c. search needs) (λ c. search needs) (λ c κs. search needs) returns
-    (λ c. search needs) (λ c. search needs) (λ c κs. search needs) returns-2 (λ c κs. search needs)
-    (λ c. search needs) (λ c. search needs) (λ c κs. search needs) returns-3 (λ c κs. search needs) returns-4
-    (λ c κs. search needs) returns-5 (λ c κs. search needs) returns-6)
+    tie.close (tie.spec (λ c κs. search needs) (λ c. search needs) (λ c. search needs) (λ c κs. search needs)
+    (λ c.
+    let e = rw (c .before .control-numbers .ensures) at (c .wide .ensures) in
+    returned (c .wide .ok) (e ∙ control-is _ _ (search needs)))
+    (λ c. search needs) (λ c. search needs) (λ c κs. search needs)
+    (λ c. returned (c .wide2 .ok) (c .wide2 .ensures ∙ bytes-is _ (search needs) _ (search needs) (search needs)))
+    (λ c κs. search needs) (λ c. search needs) (λ c. search needs) (λ c κs. search needs)
+    (λ c.
+    let s = c .before .before .before .before .before .before .before .before in
+    let e = rw (c .before .clock-numbers .ensures) at (c .wide3 .ensures) in
+    returned (c .wide3 .ok) (e ∙ clock-is _ (sixteen s) _ (search needs) (search needs)))
+    (λ c κs. search needs)
+    (λ c.
+    let s = c .before .before .before .before .before .before .before .before in
+    let p = c .param-number in
+    returned (p .ok) (p .ensures ∙ current-is _ (sixteen s) (current s) _ (search needs) (search needs)))
+    (λ c κs. search needs)
+    (λ c.
+    let s = c .before .before .before .before .before .before .before .before .before in
+    let p = c .param-number2 in
+    returned (p .ok) (p .ensures ∙ target-is _ (sixteen s) (current s) (target s) _ (search needs) (search needs)))
+    (λ c κs. search needs)
+    (λ c.
+    let s = c .before .before .before .before .before .before .before .before .before in
+    let t = c .ten-number in
+    returned (t .ok) (t .ensures ∙ memory-is _ (sixteen s) (current s) (target s) _ (search needs))))

@@ -18,18 +18,14 @@ Inv-loop chip numbers₀ i₀ numbers i = (i ≤ stateLength) × (length (stateN
 abbrev μ-loop : tie.MeasureT-loop
 μ-loop chip numbers₀ i₀ numbers i = stateLength - i
 
-loop-holds : tie.Need-loop-holds Inv-loop μ-loop
-loop-holds c =
-    let n = state-length (c .args .chip) (search needs) (search needs) (search needs) (search needs) in
-    (search needs, n, fill-none (sym n))
-
-loop-again : tie.Need-loop-again Inv-loop μ-loop
-loop-again c =
-    let l = c .before .before .loop in
-    (search needs, l .inv .1, fill-more (l .i) (pos 0) _ (l .inv .2) (search (needs, l .inv .1)) (returned (c .field .ok) (c .field .ensures)))
-
 pub state-numbers-spec : {M : Type 1} → statement M
 state-numbers-spec =
-    tie.close (tie.spec Inv-loop μ-loop loop-holds (λ c κs. search needs) (λ c. search needs) (λ c. search needs)
-    (λ c. search needs) (λ c. search needs) loop-again
+    tie.close (tie.spec Inv-loop μ-loop
+    (λ c.
+    let n = state-length (c .args .chip) (search needs) (search needs) (search needs) (search needs) in
+    (search needs, n, fill-none (sym n)))
+    (λ c κs. search needs) (λ c. search needs) (λ c. search needs) (λ c. search needs) (λ c. search needs)
+    (λ c.
+    let l = c .before .before .loop in
+    (search needs, l .inv .1, fill-more (l .i) (pos 0) _ (l .inv .2) (search (needs, l .inv .1)) (returned (c .field .ok) (c .field .ensures))))
     (λ c. let v = c .before .loop .inv in fill-all _ (v .2) (search (needs, v .1))))
