@@ -15,23 +15,19 @@ body-is : (c : tie.After-body-of)
     c .body-of .result ≡ bodyOf (byteAt (a .script .now) (a .at)) (le32 (a .script .now) (a .at + 1))
 body-is c = rw (c .before .before .byte-at .ensures, c .before .le32 .ensures .0) at (c .body-of .ensures)
 
-returns-2 : tie.Need-returns-2
-returns-2 c =
-    let b = c .before .before .before .before in
-    let a = b .before .before .before .before .args in
-    let n = c .before .before .body .given .0 .0 in
-    rw (sym (body-is b) ∙ c .before .before .body .given .1, le-leb n (length (a .script .now) - (a .at + 1)) (c .if1 .taken))
-
-returns-3 : tie.Need-returns-3
-returns-3 c =
-    let b = c .before .before .before .before in
-    let a = b .before .before .before .before .args in
-    let n = c .before .before .body .given .0 .0 in
-    rw (sym (body-is b) ∙ c .before .before .body .given .1, lt-leb n (length (a .script .now) - (a .at + 1)) (c .if1 .left))
-
 pub record-at-spec : {M : Type 1} → statement M
 record-at-spec =
     tie.close (tie.spec (λ c κs. search needs) (λ c. search needs) (λ c κs. search needs) (λ c κs. search needs)
     (λ c. search needs) (λ c. search needs)
     (λ c. rw (sym (body-is (c .before .before)) ∙ c .enum-told .given .1))
-    (λ c. search needs) (λ c. search needs) (λ c. search needs) returns-2 returns-3)
+    (λ c. search needs) (λ c. search needs) (λ c. search needs)
+    (λ c.
+    let b = c .before .before .before .before in
+    let a = b .before .before .before .before .args in
+    let n = c .before .before .body .given .0 .0 in
+    rw (sym (body-is b) ∙ c .before .before .body .given .1, le-leb n (length (a .script .now) - (a .at + 1)) (c .if1 .taken)))
+    (λ c.
+    let b = c .before .before .before .before in
+    let a = b .before .before .before .before .args in
+    let n = c .before .before .body .given .0 .0 in
+    rw (sym (body-is b) ∙ c .before .before .body .given .1, lt-leb n (length (a .script .now) - (a .at + 1)) (c .if1 .left))))

@@ -18,15 +18,12 @@ module _ (c : tie.Else1) where
   kept : toZ w64 (18446744073709551615 - c .before .args .n) ≡ pos (18446744073709551615 - c .before .args .n)
   kept = back-at w64 (pos (18446744073709551615 - c .before .args .n)) small
 
-returns-2 : tie.Need-returns-2
-returns-2 c =
-    let n = c .before .args .n in
-    let e : 18446744073709551615 - n ≡ 2 ^ 64 - suc n = search needs in
-    rw (kept c, minus-one-less (18446744073709551615 - n), back-at w64 (negsuc (18446744073709551615 - n)) (small c), le-ltb n (2 ^ 63) (c .if1 .left)) (ap negsuc e)
-
 pub signed-spec : {M : Type 1} → statement M
 signed-spec =
     tie.close (tie.spec (λ c. search needs) (λ c. search needs) (λ c. search needs)
     (λ c. rw (kept c, minus-one-less (18446744073709551615 - c .before .args .n)) (record { sfits = small c }))
     (λ c. rw (lt-ltb (c .before .args .n) (2 ^ 63) (c .if1 .taken)))
-    returns-2)
+    (λ c.
+    let n = c .before .args .n in
+    let e : 18446744073709551615 - n ≡ 2 ^ 64 - suc n = search needs in
+    rw (kept c, minus-one-less (18446744073709551615 - n), back-at w64 (negsuc (18446744073709551615 - n)) (small c), le-ltb n (2 ^ 63) (c .if1 .left)) (ap negsuc e)))

@@ -34,12 +34,10 @@ loop-again c =
           ∙ appended-twice _ _ _ _ (l .inv .1)),
     )
 
-returns : tie.Need-returns Inv-loop μ-loop
-returns c =
-    let e : c .before .loop .i ≡ c .before .before .args .count = search needs in
-    rw e at (c .before .loop .inv .1)
-
 pub with-indexes-spec : {M : Type 1} → statement M
 with-indexes-spec =
     tie.close (tie.spec Inv-loop μ-loop loop-holds (λ c κs. search needs) (λ c. search needs) (λ c. search needs)
-    (λ c. search needs) (λ c κs. search needs) (λ c. search needs) (λ c. search needs) loop-again returns)
+    (λ c. search needs) (λ c κs. search needs) (λ c. search needs) (λ c. search needs) loop-again
+    (λ c.
+    let e : c .before .loop .i ≡ c .before .before .args .count = search needs in
+    rw e at (c .before .loop .inv .1)))

@@ -22,15 +22,13 @@ loop-again c =
     let i = c .before .before .before .before .before .before .before .loop .inv in
     (filling-more (i .0) (search needs) (search needs) (p .kept .0) (p .ensures .0) (p .ensures .1) (k .0) (k .1), p .kept .0 ∙ i .1)
 
-returns-2 : tie.Need-returns-2 Inv-loop μ-loop
-returns-2 c =
-    let l = c .before .loop in
-    let z : l .left ≡ 0 = search needs in
-    record { within = l .inv .0 .within; some = λ h. search needs; listed = rw z at (l .inv .0 .listed) }
-
 pub fill-spec : {M : Type 1} → statement M
 fill-spec =
     tie.close (tie.spec Inv-loop μ-loop
     (λ c. (filling-none _ _ _ _, search needs))
     (λ c. search needs) (λ c. search needs) returns (λ c κs. search needs) (λ c κs. search needs) (λ c. search needs)
-    (λ c. search needs) loop-again (λ c. search needs) returns-2)
+    (λ c. search needs) loop-again (λ c. search needs)
+    (λ c.
+    let l = c .before .loop in
+    let z : l .left ≡ 0 = search needs in
+    record { within = l .inv .0 .within; some = λ h. search needs; listed = rw z at (l .inv .0 .listed) }))

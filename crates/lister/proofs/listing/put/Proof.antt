@@ -15,17 +15,19 @@ Inv-loop out₀ at n bytes i₀ out i = Copied out₀ at n bytes out i × (n ≤
 abbrev μ-loop : tie.MeasureT-loop
 μ-loop out₀ at n bytes i₀ out i = n - i
 
-loop-holds : tie.Need-loop-holds Inv-loop μ-loop
+pub put-spec : {M : Type 1} → statement M
 unfolding contents
-loop-holds c =
+put-spec =
+    tie.close (tie.spec Inv-loop μ-loop (λ c κs. search needs)
+    (λ c.
     let s = c .before .before .before in
     let b : length (s .args .t .bytes) ≡ 80 = search needs in
     let n : c .before .size .result ≤ 80 = rw (c .before .size .ensures, length-take) (search needs) in
-    (copied-none _ _ _ _ (search needs) (search (needs, s .pre)), n)
-
-returns : tie.Need-returns Inv-loop μ-loop
-unfolding contents
-returns c =
+    (copied-none _ _ _ _ (search needs) (search (needs, s .pre)), n))
+    (λ c. search needs) (λ c. search needs) (λ c. search needs) (λ c. search needs) (λ c. search needs)
+    (λ c. (copied-more (c .before .loop .inv .0) (c .loop-test .taken), c .before .loop .inv .1))
+    (λ c. search needs) (λ c. search needs)
+    (λ c.
     let l = c .before .loop in
     let e : l .i ≡ c .before .before .before .size .result = search (needs, l .inv .0 .passed) in
     let a = c .before .before .before .before .before .args in (
@@ -33,11 +35,4 @@ returns c =
       (rw e at (l .inv .0 .copied))
           ∙ ap (λ m. take (a .at) (a .out .now) ++ m)
           (ap (λ k. take k (a .t .bytes)) (c .before .before .before .size .ensures) ∙ take-taken (a .t .length) (a .t .bytes)),
-    )
-
-pub put-spec : {M : Type 1} → statement M
-put-spec =
-    tie.close (tie.spec Inv-loop μ-loop (λ c κs. search needs) loop-holds (λ c. search needs) (λ c. search needs)
-    (λ c. search needs) (λ c. search needs) (λ c. search needs)
-    (λ c. (copied-more (c .before .loop .inv .0) (c .loop-test .taken), c .before .loop .inv .1))
-    (λ c. search needs) (λ c. search needs) returns)
+    )))

@@ -4,9 +4,6 @@ use Rattle.lister.specs.Text.{contents}
 use Rattle.lister.proofs.text.empty.Statement.{statement}
 use Rattle.lister.proofs.text.empty.Tie as tie
 
-returns : tie.Need-returns
-unfolding contents
-returns c = refl
-
 pub empty-spec : {M : Type 1} → statement M
-empty-spec = tie.close (tie.spec returns)
+unfolding contents
+empty-spec = tie.close (tie.spec (λ c. refl))

@@ -6,13 +6,9 @@ use Rattle.lister.specs.Text.{contents}
 use Rattle.lister.proofs.text.size.Statement.{statement}
 use Rattle.lister.proofs.text.size.Tie as tie
 
-returns : tie.Need-returns
-unfolding contents
-returns c = let h : length (c .before .args .t .bytes) ≡ 80 = search needs in simp length-take (search needs)
-
-returns-2 : tie.Need-returns-2
-unfolding contents
-returns-2 c = let h : length (c .before .args .t .bytes) ≡ 80 = search needs in simp length-take (search needs)
-
 pub size-spec : {M : Type 1} → statement M
-size-spec = tie.close (tie.spec returns returns-2)
+unfolding contents
+size-spec =
+    tie.close (tie.spec
+    (λ c. let h : length (c .before .args .t .bytes) ≡ 80 = search needs in simp length-take (search needs))
+    (λ c. let h : length (c .before .args .t .bytes) ≡ 80 = search needs in simp length-take (search needs)))

@@ -16,22 +16,18 @@ Inv-loop word r₀ i₀ i-end r i = (i ≤ length word) × (contents r ≡ appen
 abbrev μ-loop : tie.MeasureT-loop
 μ-loop word r₀ i₀ i-end r i = length word - i
 
-loop-again : tie.Need-loop-again Inv-loop μ-loop
-loop-again c =
+pub with-word-spec : {M : Type 1} → statement M
+with-word-spec =
+    tie.close (tie.spec Inv-loop μ-loop
+    (λ c. (search needs, nothing-appended (c .before .args .t) (search needs)))
+    (λ c. search needs) (λ c κs. search needs) (λ c. search needs) (λ c. search needs)
+    (λ c.
     let l = c .before .before .before .loop in
     let a = c .before .before .before .before .before .args in (
       search needs,
       rw (add-one, take-suc (a .word .now) (l .i) 0 (search needs))
           (c .with-byte .ensures ∙ appended-twice (a .t) (l .r) _ _ (l .inv .1)),
-    )
-
-returns : tie.Need-returns Inv-loop μ-loop
-returns c =
+    ))
+    (λ c.
     let a = c .before .before .before .args in
-    rw (take-all (c .before .loop .i) (a .word .now) (search needs)) at (c .before .loop .inv .1)
-
-pub with-word-spec : {M : Type 1} → statement M
-with-word-spec =
-    tie.close (tie.spec Inv-loop μ-loop
-    (λ c. (search needs, nothing-appended (c .before .args .t) (search needs)))
-    (λ c. search needs) (λ c κs. search needs) (λ c. search needs) (λ c. search needs) loop-again returns)
+    rw (take-all (c .before .loop .i) (a .word .now) (search needs)) at (c .before .loop .inv .1)))

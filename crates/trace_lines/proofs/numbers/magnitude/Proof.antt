@@ -29,24 +29,16 @@ module _ (c : tie.Then1) where
   kept : toZ w64 (natAbs z - 1) ≡ pos (natAbs z - 1)
   kept = back-at w64 (pos (natAbs z - 1)) less
 
-sub-result : tie.Need-sub-result
-sub-result c = simp (toZ-ofZ, c .before .fits .z, flipped c) (record { sfits = less c })
-
-cast-result : tie.Need-cast-result
-cast-result c = simp (toZ-ofZ, c .before .fits .z, flipped c, kept c) (tt, record { fits = search (needs, less c) })
-
-add-result : tie.Need-add-result
-add-result c = simp (toZ-ofZ, c .before .fits .z, flipped c, kept c) (record { fits = search (needs, less c) })
-
-cast-result-2 : tie.Need-cast-result-2
-cast-result-2 c =
+pub magnitude-spec : {M : Type 1} → statement M
+magnitude-spec =
+    tie.close (tie.spec
+    (λ c. simp (toZ-ofZ, c .before .fits .z, flipped c) (record { sfits = less c }))
+    (λ c. simp (toZ-ofZ, c .before .fits .z, flipped c, kept c) (tt, record { fits = search (needs, less c) }))
+    (λ c. simp (toZ-ofZ, c .before .fits .z, flipped c, kept c) (record { fits = search (needs, less c) }))
+    (λ c.
     let f = c .before .fits .z in
     simp (toZ-ofZ, f)
-    (not-negative (c .before .args .z) (simp (toZ-ofZ, f) at (c .if1 .left)), record { fits = abs-below (c .before .args .z) (f .sfits) })
-
-returns : tie.Need-returns
-returns c =
-    simp (toZ-ofZ, c .before .fits .z, flipped c, kept c) (negative-abs (z c) (below c) (c .before .fits .z .sfits) .1)
-
-pub magnitude-spec : {M : Type 1} → statement M
-magnitude-spec = tie.close (tie.spec sub-result cast-result add-result cast-result-2 returns (λ c. search needs))
+    (not-negative (c .before .args .z) (simp (toZ-ofZ, f) at (c .if1 .left)), record { fits = abs-below (c .before .args .z) (f .sfits) }))
+    (λ c.
+    simp (toZ-ofZ, c .before .fits .z, flipped c, kept c) (negative-abs (z c) (below c) (c .before .fits .z .sfits) .1))
+    (λ c. search needs))
