@@ -35,7 +35,8 @@ address-most n cs =
 
 pub address-end : (n : ℕ) → n ≤ imageLimit → addressAfter n [] ≡ n
 unfolding addressAfter numberAfter allDigits
-address-end n h = rw and-true (by-test (λ m. m ≡ n) (ltb n imageLimit) (λ e. refl) (λ e. omega (arith, ltb-false n imageLimit e)))
+address-end n h =
+    rw and-true (by-test (λ m. m ≡ n) (ltb n imageLimit) (λ e. refl) (λ e. omega (arith, ltb-false n imageLimit e)))
 
 module _ (n c : ℕ) where
   -- one more character, which is no digit

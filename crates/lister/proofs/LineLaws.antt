@@ -68,7 +68,8 @@ frame-length first numbers hf hn =
     let df = decimal-length 19 first (omega arith) in
     let dk = kind-length kind in
     let de = decimal-length 2 (getD numbers 1 0) (omega (arith, hn 1)) in
-    let dp = cond-length (leb kind 2) (codes "-") (decimal (getD numbers 2 0)) 3 (omega arith) (decimal-length 2 (getD numbers 2 0) (omega (arith, hn 2))) in
+    let pitch = getD numbers 2 0 in
+    let dp = cond-length (leb kind 2) (codes "-") (decimal pitch) 3 (omega arith) (decimal-length 2 pitch (omega (arith, hn 2))) in
     let di = indexes-length (kCount kind) (drop 3 numbers) (λ i. rw getD-drop (hn (3 + i))) in
     let dc = k-count-most kind in
     simp length-append (omega arith)

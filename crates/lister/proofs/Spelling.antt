@@ -35,17 +35,20 @@ decimal-spells : (k n : ℕ) → n < k → Spells (decimal n) n
 unfolding numberAfter allDigits
 decimal-spells zero n h = absurd (omega arith)
 decimal-spells (suc k) n h =
-    let d : isDigit (48 + n % 10) ≡ true = rw (le-leb 48 (48 + n % 10) (omega arith), le-leb (48 + n % 10) 57 (omega arith)) in
+    let c = 48 + n % 10 in
+    let d : isDigit c ≡ true = rw (le-leb 48 c (omega arith), le-leb c 57 (omega arith)) in
     by-cases (ltb n 10)
-    (λ e. rw (decimal-one n (ltb-true n 10 e)) (record { some = omega arith; digits = rw d; number = omega (arith, ltb-true n 10 e) }))
+    (λ e.
+    let l = ltb-true n 10 e in
+    rw (decimal-one n l) (record { some = omega arith; digits = rw d; number = omega arith }))
     (λ e.
     let l = ltb-false n 10 e in
     let t = decimal-spells k (n / 10) (omega arith) in
     rw (decimal-more n l)
     (record {
       some = simp length-append (omega arith);
-      digits = digits-last (decimal (n / 10)) (48 + n % 10) (t .digits) d;
-      number = rw (number-last 0 (decimal (n / 10)) (48 + n % 10), t .number) (omega arith);
+      digits = digits-last (decimal (n / 10)) c (t .digits) d;
+      number = rw (number-last 0 (decimal (n / 10)) c, t .number) (omega arith);
     }))
 
 pub address-of-decimal : (n : ℕ) → addressOf (decimal n) ≡ cond (ltb n imageLimit) n imageLimit

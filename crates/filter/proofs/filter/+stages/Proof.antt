@@ -29,7 +29,8 @@ pub +stages-spec : {M : Type 1} → statement M
     let a = c .before .args in
     let p = c .before .pre .1 in
     let z = lowest-none (now (a .k)) (now (a .memory)) (p .0 .size ∙ sym (p .1 .size)) (a .above) (search (needs, p .1 .size)) in
-    rw (read tt (p .2)) (rw (c .if1 .taken), z ∙ ap (lowestMemory (now (a .k)) (now (a .memory)) (a .above)) (sym (c .if1 .taken))))
+    let e = c .if1 .taken in
+    rw (read tt (p .2)) (rw e, z ∙ ap (lowestMemory (now (a .k)) (now (a .memory)) (a .above)) (sym e)))
     (λ c. search needs)
     (λ c κs. let p = c .before .before .pre .1 in (p .0, p .1, passed tt (p .2), search needs))
     (λ c κs.

@@ -69,7 +69,9 @@ saturate-spec =
     let i = simp (read tt h) at (c .before .is-inside .ensures) in
     read tt h ∙ inside-saturated _ (sym i ∙ c .if1 .taken))
     (λ c. let h = c .before .before .pre in simp (read tt h) (fits tt (raised-range _ h)))
-    (λ c. let h = c .before .before .pre in let r = raised-small _ h in simp (read tt h, read tt (raised-range _ h)) (r .0, search (needs, r .1)))
+    (λ c.
+    let h = c .before .before .pre in
+    simp (read tt h, read tt (raised-range _ h)) (raised-small _ h .0, search (needs, raised-small _ h .1)))
     (λ c. search needs) (λ c. search needs)
     (λ c. let h = c .before .before .pre in simp (read tt h, read tt (raised-range _ h)) (search (needs, index-small c)))
     (λ c. let h = c .before .before .pre in simp (read tt h, read tt (raised-range _ h)) (index-small c))

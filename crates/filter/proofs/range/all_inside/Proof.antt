@@ -36,7 +36,8 @@ all-inside-spec =
     let z : SFits w32 (getD zs (l .i) (pos 0)) = search (each-fits w32, s .good) in
     let n : length zs ≡ 10 = search needs in
     let is = simp (toZ-ofZ, s .fits .low, s .fits .high, z) at (c .is-inside .ensures) in
-    let was = rw (drop-cons zs (l .i) (pos 0) (search needs)) at (simp (toZ-ofZ, s .fits .low, s .fits .high) at (l .inv .1)) in
+    let was = simp (toZ-ofZ, s .fits .low, s .fits .high) at (l .inv .1) in
+    let was = rw (drop-cons zs (l .i) (pos 0) (search needs)) at was in
     (search needs, simp (toZ-ofZ, s .fits .low, s .fits .high, add-one) (rw is (was ∙ sym (and-assoc (l .all) _ _)))))
     (λ c.
     let s = c .before .before in

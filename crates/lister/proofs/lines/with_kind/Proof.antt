@@ -18,5 +18,6 @@ with-kind-spec =
     (λ c. rw (c .before .before .match .keys5) (c .with-word5 .ensures))
     (λ c.
     let r = c .before .before .match .rest in
-    rw (ne-eqb _ 1 (r .0 .0 .0 .0 .1), ne-eqb _ 2 (r .0 .0 .0 .1), ne-eqb _ 3 (r .0 .0 .1), ne-eqb _ 4 (r .0 .1), ne-eqb _ 5 (r .1))
+    let q = r .0 .0 .0 in
+    rw (ne-eqb _ 1 (q .0 .1), ne-eqb _ 2 (q .1), ne-eqb _ 3 (r .0 .0 .1), ne-eqb _ 4 (r .0 .1), ne-eqb _ 5 (r .1))
     (c .with-word6 .ensures)))

@@ -30,7 +30,8 @@ excited-range c =
     let l = c .before .before .loop in
     let v = c .before .before .before .before in
     let a = v .before .before .before .before .args in
-    rw (c .excitation .ensures) (excitation-range (a .pitch-bits) (now (a .file)) (v .is-voiced .result) (l .pulse) (l .noise))
+    rw (c .excitation .ensures)
+    (excitation-range (a .pitch-bits) (now (a .file)) (v .is-voiced .result) (l .pulse) (l .noise))
 
 loop-again : tie.Need-loop-again Inv-loop μ-loop
 loop-again c =
