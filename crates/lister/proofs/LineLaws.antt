@@ -1,7 +1,7 @@
 -- Laws of the parts of a line, and that each line fits a text.
 -- Assumes nothing.
 use mathlib.Core.Path.{_≡_, sym, ap}
-use mathlib.Core.Bool.{Bool, true, false, cond}
+use mathlib.Core.Bool.{Bool, cond}
 use mathlib.Core.List.{List, [], _∷_, _++_, append-assoc, append-nil}
 use Prim.Native.Nat.{ℕ, zero, suc, _+_, _*_, _^_, _≤_, _<_}
 use native.Mathlib.Omega.{arith}
@@ -21,8 +21,7 @@ indexes-more (j ∷ ks) k = rw (indexes-more ks k) (ap (λ l. 32 ∷ l) (sym (ap
 
 -- a bound for both ways
 cond-length : (b : Bool) (x y : List ℕ) (n : ℕ) → length x ≤ n → length y ≤ n → length (cond b x y) ≤ n
-cond-length true x y n h g = h
-cond-length false x y n h g = g
+cond-length b x y n h g = by-test (λ l. length l ≤ n) b (λ e. h) (λ e. g)
 
 kind-length : (kind : ℕ) → length (kindWord kind) ≤ 8
 unfolding kindWord

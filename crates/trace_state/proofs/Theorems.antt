@@ -8,7 +8,7 @@ use lib.IntN.{ℤ, pos}
 use lib.ListN.{take, drop, length-map}
 use lib.Seq.{take-at, take-all, drop-drop, getD-drop}
 use Rattle.trace_state.specs.Types.{Clock, Params, Chip}
-use Rattle.trace_state.specs.Numbers.{wide, natural, modeOf}
+use Rattle.trace_state.specs.Numbers.{wide, natural}
 use Rattle.trace_state.specs.Fields.{paramNumbers, stateNumbers, nth, addressOf, fifoOf, portOf, clockOf, paramsOf, soundOf, chipOf}
 use Rattle.trace_state.specs.Laws.{StateLength, ParamsInFormat, InFormat, ComesBack}
 use Rattle.trace_state.proofs.Signed.{natural-back, naturals-back, shorts-back, level-back, flag-back, mode-back}
@@ -87,13 +87,9 @@ module _ (c : Chip) (f : InFormat c) where
       let p = c .control .port in
       rw (flag-back (p .pending), natural-back 255 (p .«data») (f .«data») (omega arith), flag-back (p .interrupt))
 
-  first-back : modeOf (nth s 0) ≡ c .control .mode
-  unfolding stateNumbers
-  first-back = mode-back (c .control .mode)
-
 pub state-length-is : StateLength
 state-length-is c f = state-length c (f .sixteen) (f .current .k .ten) (f .target .k .ten) (f .memory .ten)
 
 pub comes-back : ComesBack
-unfolding chipOf
-comes-back c f = rw (first-back c f, address-back c f, fifo-back c f, port-back c f, clock-back c f, sound-back c f)
+unfolding chipOf stateNumbers
+comes-back c f = rw (mode-back (c .control .mode), address-back c f, fifo-back c f, port-back c f, clock-back c f, sound-back c f)

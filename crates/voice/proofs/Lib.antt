@@ -1,6 +1,5 @@
 pub mod Entries
 pub mod Numbers
-pub mod Order
 pub mod Places
 pub mod Pulses
 pub mod Signed

@@ -1,9 +1,8 @@
 -- `lister::listing::put` meets its contract. Assumes nothing.
 use borrow.Author.Needs.{needs}
-use mathlib.Core.Path.{_≡_, ap, _∙_}
-use mathlib.Core.List.{_++_}
+use mathlib.Core.Path.{_≡_}
 use Prim.Native.Nat.{_-_, _≤_}
-use lib.ListN.{length, take, length-take}
+use lib.ListN.{length, length-take}
 use Rattle.lister.specs.Text.{contents}
 use Rattle.lister.proofs.Copies.{Copied, copied-none, copied-more, take-taken}
 use Rattle.lister.proofs.listing.put.Statement.{statement}
@@ -30,9 +29,6 @@ put-spec =
     (λ c.
     let l = c .before .loop in
     let e : l .i ≡ c .before .before .before .size .result = search (needs, l .inv .0 .passed) in
-    let a = c .before .before .before .before .before .args in (
-      search needs,
-      (rw e at (l .inv .0 .copied))
-          ∙ ap (λ m. take (a .at) (a .out .now) ++ m)
-          (ap (λ k. take k (a .t .bytes)) (c .before .before .before .size .ensures) ∙ take-taken (a .t .length) (a .t .bytes)),
-    )))
+    let t = c .before .before .before .before .before .args .t in
+    let same = take-taken (t .length) (t .bytes) in
+    (search needs, rw (← same, ← c .before .before .before .size .ensures) (rw e at (l .inv .0 .copied)))))
