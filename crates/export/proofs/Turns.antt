@@ -73,12 +73,8 @@ module _ (image voice bytes : List ℕ) where
           record {
             within = omega arith;
             size = same-len-mid i (e - i) out ys (long ∙ sym many) ∙ h .size;
-            fault = ap (fedFault image voice bytes (turns (n - e))) next ∙ ap (λ (j : ℕ). fedFault image voice bytes j s) left ∙ h .fault;
-            written =
-                ap₂ _++_ (first ∙ ap (λ (l : List ℤ). take i out ++ l) made) (ap₂ (fedInto image voice bytes (turns (n - e))) next rest)
-                ∙ append-assoc (take i out) _ _
-                ∙ ap (λ (j : ℕ). take i out ++ fedInto image voice bytes j s (drop i out)) left
-                ∙ h .written;
+            fault = rw next (rw (← left) at (h .fault));
+            written = rw (first, rest, made, next, append-assoc) (rw (← left) at (h .written));
           }
 
       pub turning-all : length out₀ - i < turn
@@ -86,10 +82,8 @@ module _ (image voice bytes : List ℕ) where
           × (out ≡ fedInto image voice bytes (turns (length out₀)) s₀ out₀)
       unfolding fedFault fedInto
       turning-all l =
-          let none : 0 ≡ turns (length out₀ - i) = omega arith in (
-            ap (λ (j : ℕ). fedFault image voice bytes j s) none ∙ h .fault,
-            sym (take-append-drop i out) ∙ ap (λ (j : ℕ). take i out ++ fedInto image voice bytes j s (drop i out)) none ∙ h .written,
-          )
+          let none : 0 ≡ turns (length out₀ - i) = omega arith in
+          (rw (← none) at (h .fault), sym (take-append-drop i out) ∙ (rw (← none) at (h .written)))
 
   module _ (out : List ℤ) {w : Written} (e : w ≡ external image voice bytes) where
     number : w .refusal ≡ external image voice bytes .refusal
@@ -111,9 +105,6 @@ module _ (image voice bytes : List ℕ) where
           → (n ≡ externalFault image voice bytes (length out)) × (new ≡ externalInto image voice bytes out)
       unfolding externalFault externalInto
       external-fed r n new =
-          let from : record { chip = w .chip; refusal = w .refusal; next = 0 } ≡ started image voice bytes =
-          ap (λ (r : ℕ). record { chip = w .chip; refusal = r; next = 0 }) h ∙ ap (λ (w : Written). record { chip = w .chip; refusal = 0; next = 0 }) e in
-          let f =
-          begin-taken out v _ _ r (n ∙ ap (fedFault image voice bytes (turns (length out))) from)
-          (new ∙ ap (λ (s : Fed). fedInto image voice bytes (turns (length out)) s out) from) in
+          let from : record { chip = w .chip; refusal = w .refusal; next = 0 } ≡ started image voice bytes = rw (h, e) in
+          let f = begin-taken out v _ _ r (rw from at n) (rw from at new) in
           begin-taken out number _ _ h (f .0) (f .1)

@@ -1,6 +1,6 @@
 -- The lattice filter from the last stage down: one stage more at the end of the lists, and what a stage does in place.
 -- Assumes nothing.
-use mathlib.Core.Path.{_≡_, refl, sym, ap, ap₂, _∙_}
+use mathlib.Core.Path.{_≡_, refl, sym, ap, _∙_}
 use mathlib.Core.List.{List, [], _∷_, _++_, append-assoc, append-nil}
 use Prim.Native.Nat.{ℕ, suc, _<_}
 use native.Mathlib.Nat.{suc-inj}
@@ -26,8 +26,7 @@ module _ (k m x : ℤ) where
   upper-snoc [] [] e = refl
   upper-snoc [] (n ∷ ms) e = absurd (omega arith)
   upper-snoc (j ∷ ks) [] e = absurd (omega arith)
-  upper-snoc (j ∷ ks) (n ∷ ms) e =
-      ap₂ (λ (f : ℤ) (r : List ℤ). memoryOf j n (forwardOf j n f) ∷ r) (forward-snoc ks ms (suc-inj e)) (upper-snoc ks ms (suc-inj e))
+  upper-snoc (j ∷ ks) (n ∷ ms) e = rw (forward-snoc ks ms (suc-inj e), upper-snoc ks ms (suc-inj e))
 
 pub upper-length : (ks ms : List ℤ) (x : ℤ) → length ks ≡ length ms → length (upperMemory ks ms x) ≡ length ks
 upper-length [] [] x e = refl
@@ -85,20 +84,17 @@ module _ (ks ms : List ℤ) (same : length ks ≡ length ms) where
     -- with a memory above the stage, what it stored follows; the last stage's is cut off
     more-memory : Dec (suc i < length ms) → (a : ℤ)
         → take (length ms) (a ∷ (below ++ drop (suc i) mem)) ≡ take (length ms) (a ∷ ((below ++ bᵢ ∷ []) ++ drop (suc (suc i)) ms))
-    more-memory (yes l) a =
-        ap (λ (r : List ℤ). take (length ms) (a ∷ r))
-        (ap (λ (r : List ℤ). below ++ r) (drop-set ms (suc i) bᵢ l) ∙ sym (append-assoc below (bᵢ ∷ []) (drop (suc (suc i)) ms)))
+    more-memory (yes l) a = rw (drop-set ms (suc i) bᵢ l, append-assoc)
     more-memory (no l) a =
         let e : length ms ≡ suc i = omega arith in
         let n : length below ≡ i = upper-length (take i ks) (take i ms) fᵢ level ∙ length-take-le i ks (omega arith) in
-        rw (e, append-assoc)
-        (ap (λ (r : List ℤ). a ∷ r) (take-at below (drop (suc i) mem) i n ∙ sym (take-at below (bᵢ ∷ drop (suc (suc i)) ms) i n)))
+        rw (e, append-assoc, take-at below (drop (suc i) mem) i n, take-at below (bᵢ ∷ drop (suc (suc i)) ms) i n)
 
     pub lowest-more : (n : ℕ) {g : ℤ} {after : List ℤ} → suc i ≡ n → g ≡ fᵢ → after ≡ mem
         → (lowestForward ks after g i ≡ lowestForward ks ms f n) × (lowestMemory ks after g i ≡ lowestMemory ks ms f n)
     lowest-more n e p q =
         rw (p, q, ← e) (
-          ap (λ (l : List ℤ). forward (take i ks) l fᵢ) unread ∙ more-forward,
+          rw unread more-forward,
           rw (unread, length-set ms (suc i) bᵢ, more-upper, more-forward) (more-memory (decLt (suc i) (length ms)) (lowestForward ks ms f (suc i))),
         )
 
