@@ -58,6 +58,7 @@ end-saturated (pos n) h e =
 end-saturated (negsuc n) h e =
     rw (below-zero n h) (sym (cond-true (ltZ (negsuc n) memoryMin) memoryMin (negsuc n) (not-false _ (sym (and-true _) ∙ e))))
 
+-- the index is 0 or 1
 index-small : (c : tie.Else1) → natAbs (raised (c .before .before .args .z)) / sumLimit < 2
 index-small c = search (needs, raised-small _ (c .before .before .pre) .1)
 

@@ -25,6 +25,7 @@ Inv-loop self file out₀ pitch-bits current k voiced memory₀ noise₀ pulse�
 abbrev μ-loop : tie.MeasureT-loop
 μ-loop self file out₀ pitch-bits current k voiced memory₀ noise₀ pulse₀ i₀ out memory noise pulse i = length out₀ - i
 
+-- what `excitation` gives is a signed byte
 excited-range : (c : tie.After-excitation Inv-loop μ-loop) → Between 128 127 (c .excitation .result)
 excited-range c =
     let l = c .before .before .loop in

@@ -14,6 +14,7 @@ module _ (s : tie.Start) where
   ok : SoundRanges (s .args .self)
   ok = ranges (s .args .self) (s .pre .0)
 
+-- what `excitation` gives is a signed byte
 excited-range : (c : tie.After-excitation) → Between 128 127 (c .excitation .result)
 excited-range c =
     let a = c .before .before .before .before .before .before .args in
