@@ -1,19 +1,19 @@
 -- Bytes, words and windows of an image, and the fields inside a window.
 -- Assumes nothing.
-use mathlib.Core.Path.{_≡_, sym}
+use mathlib.Core.Path.{_≡_}
 use mathlib.Core.List.{List}
 use Prim.Native.Nat.{ℕ, zero, suc, _+_, _*_, _-_, _/_, _%_, _^_, _≤_, _<_}
 use native.Mathlib.Nat.{one-mul, mod-lt}
 use native.Mathlib.Numerals.{add-one}
 use native.Mathlib.Omega.{arith}
 use lib.Dec.{lit<}
-use lib.ListN.{length, getD}
+use lib.ListN.{getD}
 use lib.Pow.{pow-pos, pow-mono, shr-shr, mod-pow-add, shl-exact}
 use mir.Syntax.{w8}
 use mir.Val.{Fits}
 use Rattle.rom.specs.Bits.{bit, field}
-use Rattle.rom.specs.Window.{windowBits, backwardsAt, Window}
-use Rattle.rom.proofs.Fields.{field-lt, field-none, field-split, field-first, field-inside}
+use Rattle.rom.specs.Window.{backwardsAt, Window}
+use Rattle.rom.proofs.Fields.{field-lt, field-split, field-inside}
 
 -- bit k of byte n
 bit-byte : (s : List ℕ) (n k : ℕ) → k < 8 → bit s (8 * n + k) ≡ getD s n 0 / 2 ^ (7 - k) % 2
@@ -47,7 +47,7 @@ module _ (s : List ℕ) (bytes : (i : ℕ) → Fits w8 (getD s i 0)) where
       rw (field-split s (8 * n) 8 w, byte-is n, d)
 
   -- the word of four bytes
-  word-is : (n : ℕ) → 16777216 * getD s n 0 + 65536 * getD s (n + 1) 0 + 256 * getD s (n + 2) 0 + getD s (n + 3) 0 ≡ field s (8 * n) 32
+  pub word-is : (n : ℕ) → 16777216 * getD s n 0 + 65536 * getD s (n + 1) 0 + 256 * getD s (n + 2) 0 + getD s (n + 3) 0 ≡ field s (8 * n) 32
   word-is n =
       omega (
         arith,
@@ -73,28 +73,7 @@ module _ (s : List ℕ) (bytes : (i : ℕ) → Fits w8 (getD s i 0)) where
       let d : x / 16777216 ≡ getD s (n + 3) 0 = omega (arith, bytes n, bytes (n + 1), bytes (n + 2)) in
       rw (a, b, c, d) (word-is n)
 
-  -- eight bytes from byte m on, moved on by byte n before it
-  moved-on-is : (n m : ℕ) {x : ℕ} → m ≡ n + 1 → x ≡ field s (8 * m) 64 → x / 256 + 2 ^ 56 * getD s n 0 ≡ field s (8 * n) 64
-  moved-on-is n m h e = rw (e, field-first s (8 * m) 56 8) (omega (arith, bytes-are n m 56 h))
-
-  -- eight bytes from byte i on, or from byte n where n is the greater: with one byte more
-  pub back-on : (n i : ℕ) {x : ℕ} → n < i → x ≡ field s (8 * (n + (i - n))) 64
-      → x / 256 + 2 ^ 56 * getD s (i - 1) 0 ≡ field s (8 * (n + (i - 1 - n))) 64
-  back-on n i h e =
-      let d : n + (i - 1 - n) ≡ i - 1 = omega arith in
-      rw d (moved-on-is (i - 1) (n + (i - n)) (omega arith) e)
-
 module _ (s : List ℕ) where
-  -- the same before the first byte, where all are past the end
-  pub back-first : (n : ℕ) → 0 ≡ field s (8 * (n + (length s - n))) 64
-  back-first n = sym (field-none s _ 64 (omega arith))
-
-  -- the same as far as byte n
-  pub back-last : (n i : ℕ) {x : ℕ} → i ≤ n → x ≡ field s (8 * (n + (i - n))) 64 → x ≡ field s (8 * n) 64
-  back-last n i h e =
-      let d : n + (i - n) ≡ n = omega arith in
-      rw d at e
-
   -- a word fits its 32 bits
   pub word-fits : (at : ℕ) {x : ℕ} → x ≡ field s at 32 → x < 2 ^ 32
   word-fits at e = rw e (field-lt s at 32)
@@ -105,18 +84,18 @@ module _ (s : List ℕ) where
       let d : 8 * n + 32 ≡ 8 * (n + 4) = omega arith in
       omega (arith, rw d at (field-split s (8 * n) 32 32))
 
-  -- the window at a bit stands in the eight bytes from its first on
-  pub window-is : (at : ℕ) {x : ℕ} → x ≡ field s (8 * (at / 8)) 64 → Window s at (x / 2 ^ (7 - at % 8) % 2 ^ windowBits)
-  window-is at e =
-      let l : at % 8 + windowBits + (7 - at % 8) ≡ 64 = omega arith in
+  -- the window at a bit stands in the w + 7 bits from its first byte on
+  pub window-is : (w at : ℕ) {x : ℕ} → x ≡ field s (8 * (at / 8)) (w + 7) → Window w s at (x / 2 ^ (7 - at % 8) % 2 ^ w)
+  window-is w at e =
+      let l : at % 8 + w + (7 - at % 8) ≡ w + 7 = omega arith in
       let p : 8 * (at / 8) + at % 8 ≡ at = omega arith in
-      rw e (rw (l, p) at (field-inside s (8 * (at / 8)) (at % 8) windowBits (7 - at % 8)))
+      rw e (rw (l, p) at (field-inside s (8 * (at / 8)) (at % 8) w (7 - at % 8)))
 
-  -- a field inside a window
-  pub part-is : (at k w : ℕ) {x : ℕ} → Window s at x → k + w ≤ windowBits → x / 2 ^ (windowBits - k - w) % 2 ^ w ≡ field s (at + k) w
-  part-is at k w e h =
-      let l : k + w + (windowBits - k - w) ≡ windowBits = omega arith in
-      rw e (rw l at (field-inside s at k w (windowBits - k - w)))
+  -- a field inside a window of b bits
+  pub part-is : (b at k w : ℕ) {x : ℕ} → Window b s at x → k + w ≤ b → x / 2 ^ (b - k - w) % 2 ^ w ≡ field s (at + k) w
+  part-is b at k w e h =
+      let l : k + w + (b - k - w) ≡ b = omega arith in
+      rw e (rw l at (field-inside s at k w (b - k - w)))
 
 -- at most eight bits fit a byte
 pub part-fits : (x : ℕ) {w : ℕ} → w ≤ 8 → x % 2 ^ w < 2 ^ 8

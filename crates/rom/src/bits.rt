@@ -4,7 +4,8 @@ ghost use mathlib.Core.List.{List};
 ghost use Prim.Native.Nat.{ℕ, _+_, _*_, _/_, _%_, _≤_, _<_, _^_};
 ghost use lib.ListN.{length};
 ghost use Rattle.rom.specs.Bits.{field, imageValid, imageFault};
-ghost use Rattle.rom.specs.Window.{windowBits, backwardsAt, Window};
+ghost use Rattle.rom.specs.Window.{narrow, wide, backwardsAt, Window};
+use base::bytes::byte_at;
 use base::refusal::BEYOND;
 use base::refusal::IMAGE;
 use base::refusal::TAKEN;
@@ -70,55 +71,59 @@ fn two_words(high: u64, low: u64) -> u64
     4294967296 * high + low
 }
 
-// Eight bytes as a number, moved on by one byte, which becomes the first.
-fn move_on(number: u64, byte: u8) -> u64
-    ensures { λ r. ⌜ r ≡ number / 256 + 2 ^ 56 * byte ⌝ }
+// The number in the 32 bits from byte n on, where the slice may end before them; quick where it has them all. The walk spends its
+// time here.
+fn be32(s: &[u8], n: usize) -> u64
+    requires { ⌜ n ≤ 2 ^ 33 ⌝ }
+    ensures { λ r. ⌜ r ≡ field (now (s .entry)) (8 * n) 32 ⌝ }
 {
-    number / 256 + 72057594037927936 * byte as u64
-}
-
-// The number in the 64 bits from byte n on, where the slice may end before them: from its last byte back to byte n. A loop, and not
-// eight reads, so that the compiler finds `window_at` small enough for the walk's loop.
-fn be64_end(s: &[u8], n: usize) -> u64
-    ensures { λ r. ⌜ r ≡ field (now (s .entry)) (8 * n) 64 ⌝ }
-{
-    let mut number: u64 = 0;
-    let mut i = s.len();
-    while n < i {
-        i -= 1;
-        number = move_on(number, s[i]);
+    if n + 3 < s.len() {
+        return word_in(s, n);
     }
-    number
+    word(
+        byte_at(s, n),
+        byte_at(s, n + 1),
+        byte_at(s, n + 2),
+        byte_at(s, n + 3),
+    )
 }
 
-// The same, and quick where the slice has them all; the walk spends its time here.
+// The number in the 64 bits from byte n on.
 fn be64(s: &[u8], n: usize) -> u64
     requires { ⌜ n ≤ 2 ^ 32 ⌝ }
     ensures { λ r. ⌜ r ≡ field (now (s .entry)) (8 * n) 64 ⌝ }
 {
-    if n + 7 < s.len() {
-        return two_words(word_in(s, n), word_in(s, n + 4));
-    }
-    be64_end(s, n)
+    two_words(be32(s, n), be32(s, n + 4))
 }
 
-// The bits of a window: as many as eight bytes have from any bit of the first on, and more than a frame has.
-const WINDOW_BITS: usize = 57;
+// The bits of a narrow window: as many as four bytes have from any bit of the first on, and more than a head has.
+pub(crate) const NARROW: usize = 25;
 
-// The window at bit `at`: the number in the 57 bits from there on, the first the most significant.
-pub(crate) fn window_at(s: &[u8], at: usize) -> u64
+// The bits of a wide one: as many as eight bytes have, and more than a frame has.
+pub(crate) const WIDE: usize = 57;
+
+// The narrow window at bit `at`: the number in the 25 bits from there on, the first the most significant.
+pub(crate) fn narrow_at(s: &[u8], at: usize) -> u64
     requires { ⌜ at ≤ 2 ^ 32 ⌝ }
-    ensures { λ r. ⌜ Window (now (s .entry)) at r ⌝ }
+    ensures { λ r. ⌜ Window narrow (now (s .entry)) at r ⌝ }
 {
-    (be64(s, at / 8) >> (7 - at % 8)) % (1 << WINDOW_BITS)
+    (be32(s, at / 8) >> (7 - at % 8)) % (1 << NARROW)
 }
 
-// The field of `width` bits after the first `skipped` bits of a window, whatever image and bit the window is of.
-pub(crate) fn part(window: u64, skipped: usize, width: usize) -> u8
-    requires { ⌜ (width ≤ 8) × (skipped + width ≤ windowBits) ⌝ }
-    ensures { λ r. ⌜ ((s : List ℕ) (at : ℕ) → Window s at window → r ≡ field s (at + skipped) width) ⌝ }
+// The wide window at bit `at`.
+pub(crate) fn wide_at(s: &[u8], at: usize) -> u64
+    requires { ⌜ at ≤ 2 ^ 32 ⌝ }
+    ensures { λ r. ⌜ Window wide (now (s .entry)) at r ⌝ }
 {
-    ((window >> (WINDOW_BITS - skipped - width)) % (1 << width)) as u8
+    (be64(s, at / 8) >> (7 - at % 8)) % (1 << WIDE)
+}
+
+// The field of `width` bits after the first `skipped` of a window's `bits`, whatever image and bit the window is of.
+pub(crate) fn part(window: u64, bits: usize, skipped: usize, width: usize) -> u8
+    requires { ⌜ (width ≤ 8) × (skipped + width ≤ bits) × (bits ≤ wide) ⌝ }
+    ensures { λ r. ⌜ ((s : List ℕ) (at : ℕ) → Window bits s at window → r ≡ field s (at + skipped) width) ⌝ }
+{
+    ((window >> (bits - skipped - width)) % (1 << width)) as u8
 }
 
 // The number in the `width` bits from bit `at` on, the first the most significant.
@@ -126,5 +131,5 @@ pub fn field_at(s: &[u8], at: usize, width: usize) -> u8
     requires { ⌜ (width ≤ 8) × (at ≤ 2 ^ 32) ⌝ }
     ensures { λ r. ⌜ r ≡ field (now (s .entry)) at width ⌝ }
 {
-    part(window_at(s, at), 0, width)
+    part(narrow_at(s, at), NARROW, 0, width)
 }

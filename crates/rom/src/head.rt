@@ -2,8 +2,9 @@
 ghost use mathlib.Core.Path.{_≡_};
 ghost use mathlib.Core.List.{List};
 ghost use Prim.Native.Nat.{ℕ, _≤_};
-ghost use Rattle.rom.specs.Window.{Window};
+ghost use Rattle.rom.specs.Window.{narrow, Window};
 ghost use Rattle.rom.specs.Reader.{headAt, kindOf, kindBits};
+use crate::bits::NARROW;
 use crate::bits::part;
 
 // The fields that give the kind of a frame.
@@ -13,15 +14,15 @@ pub struct Head {
     pub pitch: u8,
 }
 
-// The head of the frame whose first bit is that of a window.
+// The head of the frame whose first bit is that of a narrow window.
 pub(crate) fn head_of(window: u64, pitch_bits: usize) -> Head
     requires { ⌜ «pitch_bits» ≤ 8 ⌝ }
-    ensures { λ r. ⌜ ((s : List ℕ) (at : ℕ) → Window s at window → r ≡ headAt «pitch_bits» s at) ⌝ }
+    ensures { λ r. ⌜ ((s : List ℕ) (at : ℕ) → Window narrow s at window → r ≡ headAt «pitch_bits» s at) ⌝ }
 {
     Head {
-        energy: part(window, 0, 4),
-        repeat: part(window, 4, 1),
-        pitch: part(window, 5, pitch_bits),
+        energy: part(window, NARROW, 0, 4),
+        repeat: part(window, NARROW, 4, 1),
+        pitch: part(window, NARROW, 5, pitch_bits),
     }
 }
 

@@ -6,9 +6,11 @@ ghost use Rattle.rom.specs.Bits.{imageLimit};
 ghost use Rattle.rom.specs.Frames.{pitchBits};
 ghost use Rattle.rom.specs.Phrases.{walkRefused, walkAccepted, framesFrom, walkedOver, walkOf, phraseOf};
 use crate::bits::image_fault;
-use crate::bits::window_at;
+use crate::bits::narrow_at;
+use crate::bits::wide_at;
 use crate::frames::PITCH_BITS;
 use crate::frames::is_stop;
+use crate::head::head_of;
 use crate::reader::FrameAnswer;
 use crate::reader::frame_in;
 use base::refusal::NO_PHRASE;
@@ -54,8 +56,8 @@ fn accept(bits: usize, count: u32) -> Walked
     }
 }
 
-// The walk from bit `start` on, through the first stop, of an image that has passed the checks. The two calls are `frame_at`: the
-// compiler finds each small enough for this loop, and not both in one.
+// The walk from bit `start` on, through the first stop, of an image that has passed the checks. The frame is `frame_at`, written out: the
+// compiler takes each of the calls into this loop, but not all in one, and leaves out the wide window, whose K nobody asks for.
 fn walk_from(image: &[u8], start: usize, pitch_bits: usize) -> Walked
     requires { ⌜ («pitch_bits» ≤ 8) × (length (now image) ≤ imageLimit) × (start ≤ 8 * length (now image)) ⌝ }
     ensures { λ r. ⌜ r ≡ walkedOver «pitch_bits» (framesFrom «pitch_bits» (now (image .entry)) start (8 * length (now (image .entry)))) ⌝ }
@@ -63,7 +65,8 @@ fn walk_from(image: &[u8], start: usize, pitch_bits: usize) -> Walked
     let mut at = start;
     let mut count: u32 = 0;
     loop {
-        let answer = frame_in(window_at(image, at), at, 8 * image.len(), pitch_bits);
+        let head = head_of(narrow_at(image, at), pitch_bits);
+        let answer = frame_in(head, wide_at(image, at), at, 8 * image.len(), pitch_bits);
         let FrameAnswer::Whole(frame, next) = answer else {
             return refuse(NO_PHRASE);
         };

@@ -4,12 +4,14 @@ ghost use mathlib.Core.Path.{_≡_};
 ghost use mathlib.Core.List.{List};
 ghost use Prim.Native.Nat.{ℕ, _+_, _*_, _-_, _≤_, _<_, _^_};
 ghost use lib.ListN.{length};
-ghost use Rattle.rom.specs.Window.{Window};
+ghost use Rattle.rom.specs.Window.{wide, Window};
 ghost use Rattle.rom.specs.Frames.{pitchBits, numbersOf};
-ghost use Rattle.rom.specs.Reader.{frameOf, frameAt, noFrame, frameTakenOf};
+ghost use Rattle.rom.specs.Reader.{headAt, frameOf, frameAt, noFrame, frameTakenOf};
+use crate::bits::WIDE;
 use crate::bits::image_fault;
+use crate::bits::narrow_at;
 use crate::bits::part;
-use crate::bits::window_at;
+use crate::bits::wide_at;
 use crate::frames::Frame;
 use crate::frames::MaybeFrame;
 use crate::frames::PITCH_BITS;
@@ -30,15 +32,15 @@ pub enum FrameAnswer {
 // The frame of a kind and a head. Its K are parts of its window, which cost nothing where the caller does not use them.
 fn frame_of(kind: Kind, head: Head, window: u64, pitch_bits: usize) -> Frame
     requires { ⌜ «pitch_bits» ≤ 8 ⌝ }
-    ensures { λ r. ⌜ ((s : List ℕ) (at : ℕ) → Window s at window → r ≡ frameOf kind head s (at + 5 + «pitch_bits»)) ⌝ }
+    ensures { λ r. ⌜ ((s : List ℕ) (at : ℕ) → Window wide s at window → r ≡ frameOf kind head s (at + 5 + «pitch_bits»)) ⌝ }
 {
     let energy = head.energy;
     let pitch = head.pitch;
     let k = 5 + pitch_bits;
-    let k1 = part(window, k, 5);
-    let k2 = part(window, k + 5, 5);
-    let k3 = part(window, k + 10, 4);
-    let k4 = part(window, k + 14, 4);
+    let k1 = part(window, WIDE, k, 5);
+    let k2 = part(window, WIDE, k + 5, 5);
+    let k3 = part(window, WIDE, k + 10, 4);
+    let k4 = part(window, WIDE, k + 14, 4);
     match kind {
         Kind::Silence => Frame::Silence,
         Kind::Stop => Frame::Stop,
@@ -57,23 +59,28 @@ fn frame_of(kind: Kind, head: Head, window: u64, pitch_bits: usize) -> Frame
             k2,
             k3,
             k4,
-            k5: part(window, k + 18, 4),
-            k6: part(window, k + 22, 4),
-            k7: part(window, k + 26, 4),
-            k8: part(window, k + 30, 3),
-            k9: part(window, k + 33, 3),
-            k10: part(window, k + 36, 3),
+            k5: part(window, WIDE, k + 18, 4),
+            k6: part(window, WIDE, k + 22, 4),
+            k7: part(window, WIDE, k + 26, 4),
+            k8: part(window, WIDE, k + 30, 3),
+            k9: part(window, WIDE, k + 33, 3),
+            k10: part(window, WIDE, k + 36, 3),
         },
     }
 }
 
-// The frame whose first bit is that of the window at bit `at`, with the bit after it, where the slice has `end` bits. Its head is
-// read once, and gives its kind, its bits and the frame.
-pub(crate) fn frame_in(window: u64, at: usize, end: usize, pitch_bits: usize) -> FrameAnswer
+// The frame at bit `at` with its head and its wide window, and the bit after it, where the slice has `end` bits. The head is a number
+// of its own so that a caller which asks for no K, as the walk, costs no more than the head.
+pub(crate) fn frame_in(
+    head: Head,
+    window: u64,
+    at: usize,
+    end: usize,
+    pitch_bits: usize,
+) -> FrameAnswer
     requires { ⌜ («pitch_bits» ≤ 8) × (at < 2 ^ 32 - 64) ⌝ }
-    ensures { λ r. ⌜ ((s : List ℕ) → Window s at window → end ≡ 8 * length s → r ≡ frameAt «pitch_bits» s at) ⌝ }
+    ensures { λ r. ⌜ ((s : List ℕ) → head ≡ headAt «pitch_bits» s at → Window wide s at window → end ≡ 8 * length s → r ≡ frameAt «pitch_bits» s at) ⌝ }
 {
-    let head = head_of(window, pitch_bits);
     let kind = kind_of(head);
     let next = at + kind_bits(kind, pitch_bits);
     if end < next {
@@ -88,7 +95,8 @@ pub fn frame_at(s: &[u8], at: usize, pitch_bits: usize) -> FrameAnswer
     requires { ⌜ («pitch_bits» ≤ 8) × (at < 2 ^ 32 - 64) × (length (now s) < 2 ^ 32) ⌝ }
     ensures { λ r. ⌜ r ≡ frameAt «pitch_bits» (now (s .entry)) at ⌝ }
 {
-    frame_in(window_at(s, at), at, 8 * s.len(), pitch_bits)
+    let head = head_of(narrow_at(s, at), pitch_bits);
+    frame_in(head, wide_at(s, at), at, 8 * s.len(), pitch_bits)
 }
 
 // What taking a frame at a bit returns: the refusal number, the frame or none, and its bits.

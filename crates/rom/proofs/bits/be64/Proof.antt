@@ -7,8 +7,6 @@ use Rattle.rom.proofs.bits.be64.Tie as tie
 
 pub be64-spec : {M : Type 1} → statement M
 be64-spec =
-    tie.close (tie.spec (λ c. search needs) (λ c κs. search needs) (λ c. search needs) (λ c κs. search needs)
-    (λ c κs. (word-fits _ _ (c .before .word-in .ensures), word-fits _ _ (c .word-in2 .ensures)))
-    (λ c. c .two-words .ensures ∙ words-are _ _ (c .before .before .word-in .ensures) (c .before .word-in2 .ensures))
-    (λ c κs. search needs)
-    (λ c. c .be64-end .ensures))
+    tie.close (tie.spec (λ c κs. search needs) (λ c. search needs) (λ c κs. search needs)
+    (λ c κs. (word-fits _ _ (c .before .be32 .ensures), word-fits _ _ (c .be322 .ensures)))
+    (λ c. c .two-words .ensures ∙ words-are _ _ (c .before .before .be32 .ensures) (c .before .be322 .ensures)))

@@ -10,4 +10,4 @@ part-spec =
     tie.close (tie.spec (λ c. search needs) (λ c. search needs) (λ c. search needs) (λ c. search needs)
     (λ c. rw (one-shifted (c .args .width) (c .pre .0)) (pow-pos _))
     (λ c. rw (one-shifted (c .args .width) (c .pre .0)) (record { fits = part-fits _ (c .pre .0) }))
-    (λ c s at h. rw (one-shifted (c .args .width) (c .pre .0)) (part-is s at _ _ h (c .pre .1))))
+    (λ c s at h. rw (one-shifted (c .args .width) (c .pre .0)) (part-is s _ at _ _ h (c .pre .1))))

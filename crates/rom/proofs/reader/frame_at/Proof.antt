@@ -6,5 +6,7 @@ use Rattle.rom.proofs.reader.frame_at.Tie as tie
 
 pub frame-at-spec : {M : Type 1} → statement M
 frame-at-spec =
-    tie.close (tie.spec (λ c κs. search needs) (λ c. search needs) (λ c κs. search needs)
-    (λ c. c .frame-in .ensures _ (c .before .window-at .ensures) refl))
+    tie.close (tie.spec (λ c κs. search needs) (λ c κs. search needs) (λ c κs. search needs) (λ c. search needs) (λ c κs. search needs)
+    (λ c.
+    let h = c .before .before in
+    c .frame-in .ensures _ (h .head-of .ensures _ _ (h .before .narrow-at .ensures)) (c .before .wide-at .ensures) refl))
