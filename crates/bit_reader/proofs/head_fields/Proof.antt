@@ -39,8 +39,7 @@ use Rattle.rom.specs.Bits.{field}
 use Rattle.rom.specs.Reader.{headAt}
 use Rattle.rom.specs.declared.head.Head.{Head}
 use Rattle.bit_reader.specs.declared.Reader.{Reader}
-use Rattle.bit_reader.proofs.Held.{Own, moved}
-use Rattle.bit_reader.proofs.Lending.{NextField, reads}
+use Rattle.bit_reader.proofs.Lending.{Own, moved, NextField, reads}
 use Rattle.rom.proofs.head.Head as Made
 use Rattle.rom.proofs.head.Head.Laws as Made′
 use Rattle.bit_reader.proofs.Reader as T
