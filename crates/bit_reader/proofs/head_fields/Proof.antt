@@ -65,45 +65,45 @@ head-fields-spec 𝓤 H 𝓜 𝓖 𝓡 =
     c f (WpFn-mono 𝓤 H (W .laws) 𝓣 code.function)
     (walked 𝓤 H A head-fields.ended stayed c f (λ κs. (slice-vals, (uint-vals w64, (uint-vals w64, tt)))) (λ κs. (shr-slice-tells (named 0) (κs .0) u8, (uint-tells w64, (uint-tells w64, tt))))
     (λ κs qs bounds a _ are. needs 𝓤 _ _ (λ ok.
-        let κ = κs .0 in
-        let q = qs .0 in
-        let s = a .0 in
-        let m = a .1 .0 in
-        let n = a .1 .1 .0 in
-        let m-fits : m < 2 ^ 64 = omega (arith, ok) in
-        let n-fits : n < 2 ^ 64 = omega (arith, ok) in
-        let room = are .0 .0 .1 .0 in
-        -- the machine values
-        let v = sliceVal (s .ptr) (length (s .now)) in
-        let vals : List Val × (List Val × (List Val × Unit {0})) = (v ∷ [], (vint w64 m ∷ [], (vint w64 n ∷ [], tt))) in
-        let Image = ShrSlice (named 0) κ u8 .own s (v ∷ []) in
-        -- the reader at first, and the head that is made
-        let h₀ : Reader = record { image = s; at = m } in
-        let made : Head = record { energy = field (now s) m 4; repeat = field (now s) (m + 4) 1; pitch = field (now s) (m + 4 + 1) n } in
-        let e : m + 4 + 1 ≡ m + 5 = omega arith in
-        let made-is : made ≡ headAt n (now s) m = rw e in
-        qed W ((‵ (flft κ q) ⊛ ‵ ftrue) ∷ ‵ (owns (ShrSlice (named 0) κ u8 ∷ usize ∷ usize ∷ []) a vals) ∷ []) ∵ enter ! (t .C) (t .Λ) code.function (v ∷ vint w64 m ∷ vint w64 n ∷ []) _ $
-        alloc1 ! (λ l₀. alloc1 ! (λ l₁. alloc1 ! (λ l₂. alloc1 ! (λ l₃. alloc1 ! (λ l₄. alloc1 ! (λ l₅. alloc1 ! (λ l₆. alloc1 ! (λ l₇. alloc1 ! (λ l₈. alloc1 ! (λ l₉. alloc1 ! (λ l₁₀. alloc0 ! $ params1 ! $
-        pass1 ! (init ! 18 refl (tt, (tt, (record { fits = room }, tt)))) $ pass1 ! (init ! 16 refl (tt, record { fits = m-fits })) $ pass1 ! (init ! 14 refl (tt, record { fits = n-fits })) $ pass0 ! $
-        -- the reader is made in _4, and owns a copy of what the image owns
-        assigns ! (agg ! (and-then ! (load ! (from ! (stop !)) (look ! 18 refl)) (and-then ! (load ! (from ! (stop !)) (look ! 16 refl)) (no-more !)))) (from ! (stop !)) (init ! 12 refl (tt, ((tt, (record { fits = room }, tt)), (record { fits = m-fits }, tt)))) $
-        move ! (23 ∷ []) $ fsplit ! $ use1 W (‵ Image ⊛ ‵ Image) (shr-slice-copy 𝓤 H A W (named 0) κ u8 .twice s (v ∷ [])) $ split ! $
-        nothing ! $ owned ! usize (Is usize) (uint-makes 𝓤 H A W w64) m _ (refl, m-fits) $ fjoin ! $ move ! (1 ∷ 0 ∷ []) $ fjoin ! $ use1 W (‵ (Own κ h₀)) (own-shut 𝓤 H A W (T.the-type (namedLft 1 0 tt (κ, tt))) (T′.the-laws (namedLft 1 0 tt (κ, tt))) (s, (m, tt))) $
-        move ! (25 ∷ []) $ split ! $ move ! (17 ∷ 2 ∷ 0 ∷ []) $
-        -- [the reader in _4; what it owns; the token; …; what image owns; …; _10; …; _9; …; _8; …; _7; …; _6; …; _5; …; …; _3; …; _2; …; _1; …; room for _0; …]
-        assigns ! (addr ! (from ! (stop !))) (from ! (stop !)) (init ! 10 refl (tt, tt)) $
-        reads 𝓤 H A (𝓜 .mem) (𝓡 .run) W κ q l₄ h₀ 4 ! fm known (omega (arith, ok), omega (arith, ok)) (λ ν δ. and-then ! (load ! (from ! (stop !)) (look ! 9 refl)) (and-then ! (lit ! tt) (no-more !))) (λ f₀. land ! (from ! (stop !)) (init ! 16 refl (tt, record { fits = f₀ })) $
-        assigns ! (addr ! (from ! (stop !))) (from ! (stop !)) (init ! 8 refl (tt, tt)) $
-        reads 𝓤 H A (𝓜 .mem) (𝓡 .run) W κ q l₄ (moved h₀ 4) 1 ! fm known (omega (arith, ok), omega (arith, ok)) (λ ν δ. and-then ! (load ! (from ! (stop !)) (look ! 7 refl)) (and-then ! (lit ! tt) (no-more !))) (λ f₁. land ! (from ! (stop !)) (init ! 14 refl (tt, record { fits = f₁ })) $
-        assigns ! (addr ! (from ! (stop !))) (from ! (stop !)) (init ! 6 refl (tt, tt)) $
-        reads 𝓤 H A (𝓜 .mem) (𝓡 .run) W κ q l₄ (moved (moved h₀ 4) 1) n ! fm known (ok .0, omega (arith, ok)) (λ ν δ. and-then ! (load ! (from ! (stop !)) (look ! 5 refl)) (and-then ! (load ! (from ! (stop !)) (look ! 18 refl)) (no-more !))) (λ f₂. land ! (from ! (stop !)) (init ! 12 refl (tt, record { fits = f₂ })) $
-        assigns ! (agg ! (and-then ! (load ! (from ! (stop !)) (look ! 16 refl)) (and-then ! (load ! (from ! (stop !)) (look ! 14 refl)) (and-then ! (load ! (from ! (stop !)) (look ! 12 refl)) (no-more !))))) (from ! (stop !)) (init ! 25 refl (tt, (record { fits = f₀ }, (record { fits = f₁ }, (record { fits = f₂ }, tt))))) $
-        returns ! (look ! 25 refl) $ forget ! 0 refl $ forget ! 6 refl $ forget ! 8 refl $ forget ! 10 refl $ forget ! 12 refl $ forget ! 14 refl $ forget ! 16 refl $ forget ! 19 refl $ forget ! 21 refl $ forget ! 23 refl $ forget ! 25 refl $
-        move ! (25 ∷ 26 ∷ []) $ free1 ! $ move ! (23 ∷ 24 ∷ []) $ free1 ! $ move ! (21 ∷ 22 ∷ []) $ free1 ! $ move ! (19 ∷ 20 ∷ []) $ free1 ! $ move ! (0 ∷ 18 ∷ []) $ free1 ! $ move ! (15 ∷ 16 ∷ []) $ free1 ! $
-        move ! (13 ∷ 14 ∷ []) $ free1 ! $ move ! (11 ∷ 12 ∷ []) $ free1 ! $ move ! (9 ∷ 10 ∷ []) $ free1 ! $ move ! (7 ∷ 8 ∷ []) $ free1 ! $ move ! (5 ∷ 6 ∷ []) $ free1 ! $ free0 ! $
-        keep ! (1 ∷ 3 ∷ []) $
-        suffices ! _ (ends-at 𝓤 H A head-fields.ended stayed c W (((κ, tt), (q, tt), tt, a, vals), tt) (Made′.lowered made) made (tt, (tt, (tt, tt))) (tt, (tt, (tt, tt)))) $
-        says ! made-is $ nothing ! $ move ! (1 ∷ 0 ∷ []) $ join ! $ frame ! $
-        nothing ! $ owned ! usize (Is usize) (uint-makes 𝓤 H A W w64) n _ (refl, n-fits) $ fjoin ! $ owned ! usize (Is usize) (uint-makes 𝓤 H A W w64) m _ (refl, m-fits) $ fjoin ! $ move ! (1 ∷ 0 ∷ []) $ fjoin ! $ frame ! $
-        nothing ! $ owned ! u8 (Is u8) (uint-makes 𝓤 H A W w8) (made .pitch) _ (refl, f₂) $ fjoin ! $ owned ! u8 (Is u8) (uint-makes 𝓤 H A W w8) (made .repeat) _ (refl, f₁) $ fjoin ! $
-        owned ! u8 (Is u8) (uint-makes 𝓤 H A W w8) (made .energy) _ (refl, f₀) $ fjoin ! $ by ! (own-shut 𝓤 H A W Made.the-type Made′.the-laws (made .energy, (made .repeat, (made .pitch, tt))))))))))))))))))))))
+    let κ = κs .0 in
+    let q = qs .0 in
+    let s = a .0 in
+    let m = a .1 .0 in
+    let n = a .1 .1 .0 in
+    let m-fits : m < 2 ^ 64 = omega (arith, ok) in
+    let n-fits : n < 2 ^ 64 = omega (arith, ok) in
+    let room = are .0 .0 .1 .0 in
+    -- the machine values
+    let v = sliceVal (s .ptr) (length (s .now)) in
+    let vals : List Val × (List Val × (List Val × Unit {0})) = (v ∷ [], (vint w64 m ∷ [], (vint w64 n ∷ [], tt))) in
+    let Image = ShrSlice (named 0) κ u8 .own s (v ∷ []) in
+    -- the reader at first, and the head that is made
+    let h₀ : Reader = record { image = s; at = m } in
+    let made : Head = record { energy = field (now s) m 4; repeat = field (now s) (m + 4) 1; pitch = field (now s) (m + 4 + 1) n } in
+    let e : m + 4 + 1 ≡ m + 5 = omega arith in
+    let made-is : made ≡ headAt n (now s) m = rw e in
+    qed W ((‵ (flft κ q) ⊛ ‵ ftrue) ∷ ‵ (owns (ShrSlice (named 0) κ u8 ∷ usize ∷ usize ∷ []) a vals) ∷ []) ∵ enter ! (t .C) (t .Λ) code.function (v ∷ vint w64 m ∷ vint w64 n ∷ []) _ $
+    alloc1 ! (λ l₀. alloc1 ! (λ l₁. alloc1 ! (λ l₂. alloc1 ! (λ l₃. alloc1 ! (λ l₄. alloc1 ! (λ l₅. alloc1 ! (λ l₆. alloc1 ! (λ l₇. alloc1 ! (λ l₈. alloc1 ! (λ l₉. alloc1 ! (λ l₁₀. alloc0 ! $ params1 ! $
+    pass1 ! (init ! 18 refl (tt, (tt, (record { fits = room }, tt)))) $ pass1 ! (init ! 16 refl (tt, record { fits = m-fits })) $ pass1 ! (init ! 14 refl (tt, record { fits = n-fits })) $ pass0 ! $
+    -- the reader is made in _4, and owns a copy of what the image owns
+    assigns ! (agg ! (and-then ! (load ! (from ! (stop !)) (look ! 18 refl)) (and-then ! (load ! (from ! (stop !)) (look ! 16 refl)) (no-more !)))) (from ! (stop !)) (init ! 12 refl (tt, ((tt, (record { fits = room }, tt)), (record { fits = m-fits }, tt)))) $
+    move ! (23 ∷ []) $ fsplit ! $ use1 W (‵ Image ⊛ ‵ Image) (shr-slice-copy 𝓤 H A W (named 0) κ u8 .twice s (v ∷ [])) $ split ! $
+    nothing ! $ owned ! usize (Is usize) (uint-makes 𝓤 H A W w64) m _ (refl, m-fits) $ fjoin ! $ move ! (1 ∷ 0 ∷ []) $ fjoin ! $ use1 W (‵ (Own κ h₀)) (own-shut 𝓤 H A W (T.the-type (namedLft 1 0 tt (κ, tt))) (T′.the-laws (namedLft 1 0 tt (κ, tt))) (s, (m, tt))) $
+    move ! (25 ∷ []) $ split ! $ move ! (17 ∷ 2 ∷ 0 ∷ []) $
+    -- [the reader in _4; what it owns; the token; …; what image owns; …; _10; …; _9; …; _8; …; _7; …; _6; …; _5; …; …; _3; …; _2; …; _1; …; room for _0; …]
+    assigns ! (addr ! (from ! (stop !))) (from ! (stop !)) (init ! 10 refl (tt, tt)) $
+    reads 𝓤 H A (𝓜 .mem) (𝓡 .run) W κ q l₄ h₀ 4 ! fm known (omega (arith, ok), omega (arith, ok)) (λ ν δ. and-then ! (load ! (from ! (stop !)) (look ! 9 refl)) (and-then ! (lit ! tt) (no-more !))) (λ f₀. land ! (from ! (stop !)) (init ! 16 refl (tt, record { fits = f₀ })) $
+    assigns ! (addr ! (from ! (stop !))) (from ! (stop !)) (init ! 8 refl (tt, tt)) $
+    reads 𝓤 H A (𝓜 .mem) (𝓡 .run) W κ q l₄ (moved h₀ 4) 1 ! fm known (omega (arith, ok), omega (arith, ok)) (λ ν δ. and-then ! (load ! (from ! (stop !)) (look ! 7 refl)) (and-then ! (lit ! tt) (no-more !))) (λ f₁. land ! (from ! (stop !)) (init ! 14 refl (tt, record { fits = f₁ })) $
+    assigns ! (addr ! (from ! (stop !))) (from ! (stop !)) (init ! 6 refl (tt, tt)) $
+    reads 𝓤 H A (𝓜 .mem) (𝓡 .run) W κ q l₄ (moved (moved h₀ 4) 1) n ! fm known (ok .0, omega (arith, ok)) (λ ν δ. and-then ! (load ! (from ! (stop !)) (look ! 5 refl)) (and-then ! (load ! (from ! (stop !)) (look ! 18 refl)) (no-more !))) (λ f₂. land ! (from ! (stop !)) (init ! 12 refl (tt, record { fits = f₂ })) $
+    assigns ! (agg ! (and-then ! (load ! (from ! (stop !)) (look ! 16 refl)) (and-then ! (load ! (from ! (stop !)) (look ! 14 refl)) (and-then ! (load ! (from ! (stop !)) (look ! 12 refl)) (no-more !))))) (from ! (stop !)) (init ! 25 refl (tt, (record { fits = f₀ }, (record { fits = f₁ }, (record { fits = f₂ }, tt))))) $
+    returns ! (look ! 25 refl) $ forget ! 0 refl $ forget ! 6 refl $ forget ! 8 refl $ forget ! 10 refl $ forget ! 12 refl $ forget ! 14 refl $ forget ! 16 refl $ forget ! 19 refl $ forget ! 21 refl $ forget ! 23 refl $ forget ! 25 refl $
+    move ! (25 ∷ 26 ∷ []) $ free1 ! $ move ! (23 ∷ 24 ∷ []) $ free1 ! $ move ! (21 ∷ 22 ∷ []) $ free1 ! $ move ! (19 ∷ 20 ∷ []) $ free1 ! $ move ! (0 ∷ 18 ∷ []) $ free1 ! $ move ! (15 ∷ 16 ∷ []) $ free1 ! $
+    move ! (13 ∷ 14 ∷ []) $ free1 ! $ move ! (11 ∷ 12 ∷ []) $ free1 ! $ move ! (9 ∷ 10 ∷ []) $ free1 ! $ move ! (7 ∷ 8 ∷ []) $ free1 ! $ move ! (5 ∷ 6 ∷ []) $ free1 ! $ free0 ! $
+    keep ! (1 ∷ 3 ∷ []) $
+    suffices ! _ (ends-at 𝓤 H A head-fields.ended stayed c W (((κ, tt), (q, tt), tt, a, vals), tt) (Made′.lowered made) made (tt, (tt, (tt, tt))) (tt, (tt, (tt, tt)))) $
+    says ! made-is $ nothing ! $ move ! (1 ∷ 0 ∷ []) $ join ! $ frame ! $
+    nothing ! $ owned ! usize (Is usize) (uint-makes 𝓤 H A W w64) n _ (refl, n-fits) $ fjoin ! $ owned ! usize (Is usize) (uint-makes 𝓤 H A W w64) m _ (refl, m-fits) $ fjoin ! $ move ! (1 ∷ 0 ∷ []) $ fjoin ! $ frame ! $
+    nothing ! $ owned ! u8 (Is u8) (uint-makes 𝓤 H A W w8) (made .pitch) _ (refl, f₂) $ fjoin ! $ owned ! u8 (Is u8) (uint-makes 𝓤 H A W w8) (made .repeat) _ (refl, f₁) $ fjoin ! $
+    owned ! u8 (Is u8) (uint-makes 𝓤 H A W w8) (made .energy) _ (refl, f₀) $ fjoin ! $ by ! (own-shut 𝓤 H A W Made.the-type Made′.the-laws (made .energy, (made .repeat, (made .pitch, tt))))))))))))))))))))))

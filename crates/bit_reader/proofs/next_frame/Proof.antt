@@ -59,24 +59,24 @@ next-frame-spec 𝓤 H 𝓜 𝓖 𝓡 =
     cited 𝓤 H (BitAfter 𝓤 H A (𝓜 .mem) (𝓡 .run)) 𝓜 𝓡 code.env #bit-after bit-after-def.routine code.calls-bit-reader·bit-after (bit-after-thm.met 𝓤 H 𝓜 𝓖 𝓡) in
     entered 𝓤 H (tripleOf 𝓤 H A next-frame.signature (next-frame.spec 𝓤 H A (𝓜 .mem) (𝓡 .run))) (t .C) (t .Λ) #next-frame code.function (code.unfolded 𝓤 H 𝓜 𝓡)
     (meets 𝓤 S.the-row Within frameIn nextFrame H A W code.function 𝓣 (λ κ κ′ q q′ bounds b o γ h n ok gn.
-        qed W (Start 𝓤 S.the-row Within frameIn nextFrame H A W κ κ′ q q′ bounds b o γ h n) ∵ enter ! (t .C) (t .Λ) code.function (vptr b o ∷ vint w64 n ∷ []) _ $
-        alloc1 ! (λ l₀. alloc1 ! (λ l₁. alloc1 ! (λ l₂. alloc1 ! (λ l₃. alloc1 ! (λ l₄. alloc1 ! (λ l₅. alloc1 ! (λ l₆. alloc0 ! $ params1 ! $ pass1 ! (init ! 10 refl (tt, tt)) $ pass1 ! (init ! 8 refl (tt, record { fits = gn })) $ pass0 ! $
-        -- the borrow is opened
-        move ! (15 ∷ []) $ fsplit ! $ fsplit3 ! $ drop ! $ move ! (17 ∷ []) $ split ! $ move ! (2 ∷ 3 ∷ 0 ∷ []) $
-        opened 𝓤 H A W κ κ′ q b o γ h ! tt (λ was.
-        -- [the struct's cell; what the reader owns; the open borrow; obs; auth; 'a's token; n's; _6; …; _5; …; _4; …; _3; …; _2; …; _1; …; room for _0; …]
-        assigns ! (of-opd ! (load ! (from ! (hop ! (look ! 17 refl) (fld ! refl (stop !)))) (look-in ! 0 (sub ! 0 refl (whole !))))) (from ! (stop !)) (init ! 13 refl (tt, (tt, (record { fits = was .1 }, tt)))) $
-        assigns ! (of-opd ! (load ! (from ! (hop ! (look ! 17 refl) (fld ! refl (stop !)))) (look-in ! 0 (sub ! 1 refl (whole !))))) (from ! (stop !)) (init ! 11 refl (tt, record { fits = was .0 })) $
-        move ! (1 ∷ 5 ∷ []) $
-        called 𝓤 H A W κ′ q′ h n ! (fmOf 𝓤 H (W .laws) 𝓣) (was .0) gn FrameAt known (((κ′, tt), (q′, tt), tt, args κ′ h n, vals κ′ h n), tt) S.the-row (frameIn h n) (asked 𝓤 H A W κ′ q′ h n ok) (λ u. id⊢ 𝓤 _)
-        (and-then ! (load ! (from ! (stop !)) (look ! 13 refl)) (and-then ! (load ! (from ! (stop !)) (look ! 11 refl)) (and-then ! (load ! (from ! (stop !)) (look ! 15 refl)) (no-more !)))) (λ u r e is.
-        -- [the frame; 'a's token; what the reader owns; the struct's cell; the open borrow; obs; auth; n's; _6; …; _5; …; _4; …; _3; …; _2; …; _1; …; room for _0; …]
-        land ! (from ! (stop !)) (init ! 10 refl (EL.lawful S.the-type S′.the-laws 𝓤 H A W tt .typed r _ is .0)) $
-        afters 𝓤 H A (𝓜 .mem) (𝓡 .run) W h ! (fmOf 𝓤 H (W .laws) 𝓣) known-after r u is (was .0) (and-then ! (load ! (from ! (stop !)) (look ! 13 refl)) (and-then ! (load ! (from ! (stop !)) (look ! 11 refl)) (no-more !))) (λ fits.
-        land ! (from ! (stop !)) (init ! 8 refl (tt, record { fits = fits })) $
-        assigns ! (of-opd ! (load ! (from ! (stop !)) (look ! 8 refl))) (from ! (hop ! (look ! 18 refl) (fld ! refl (stop !)))) (store-in ! 3 (sub ! 1 refl (whole !)) (tt, record { fits = fits })) $
-        assigns ! (of-opd ! (load ! (from ! (stop !)) (look ! 10 refl))) (from ! (stop !)) (init ! 20 refl (EL.lawful S.the-type S′.the-laws 𝓤 H A W tt .typed r _ is .0)) $
-        move ! (2 ∷ 3 ∷ 4 ∷ 5 ∷ 6 ∷ []) $ closed 𝓤 H A W κ κ′ q b o γ h ! tt (afterFrame (h .at) r) fits $
-        returns ! (look ! 18 refl) $ forget ! 6 refl $ forget ! 8 refl $ forget ! 10 refl $ forget ! 12 refl $ forget ! 14 refl $ forget ! 16 refl $ forget ! 18 refl $
-        move ! (18 ∷ 19 ∷ []) $ free1 ! $ move ! (16 ∷ 17 ∷ []) $ free1 ! $ move ! (14 ∷ 15 ∷ []) $ free1 ! $ move ! (12 ∷ 13 ∷ []) $ free1 ! $ move ! (10 ∷ 11 ∷ []) $ free1 ! $ move ! (8 ∷ 9 ∷ []) $ free1 ! $ move ! (6 ∷ 7 ∷ []) $ free1 ! $ free0 ! $
-        keep ! (0 ∷ 1 ∷ 2 ∷ 4 ∷ 3 ∷ []) $ by ! (exits 𝓤 S.the-row Within frameIn nextFrame H A W κ κ′ q q′ bounds b o γ h n gn r u (afterFrame (h .at) r) e (ap (afterFrame (h .at)) e))))))))))))))
+    qed W (Start 𝓤 S.the-row Within frameIn nextFrame H A W κ κ′ q q′ bounds b o γ h n) ∵ enter ! (t .C) (t .Λ) code.function (vptr b o ∷ vint w64 n ∷ []) _ $
+    alloc1 ! (λ l₀. alloc1 ! (λ l₁. alloc1 ! (λ l₂. alloc1 ! (λ l₃. alloc1 ! (λ l₄. alloc1 ! (λ l₅. alloc1 ! (λ l₆. alloc0 ! $ params1 ! $ pass1 ! (init ! 10 refl (tt, tt)) $ pass1 ! (init ! 8 refl (tt, record { fits = gn })) $ pass0 ! $
+    -- the borrow is opened
+    move ! (15 ∷ []) $ fsplit ! $ fsplit3 ! $ drop ! $ move ! (17 ∷ []) $ split ! $ move ! (2 ∷ 3 ∷ 0 ∷ []) $
+    opened 𝓤 H A W κ κ′ q b o γ h ! tt (λ was.
+    -- [the struct's cell; what the reader owns; the open borrow; obs; auth; 'a's token; n's; _6; …; _5; …; _4; …; _3; …; _2; …; _1; …; room for _0; …]
+    assigns ! (of-opd ! (load ! (from ! (hop ! (look ! 17 refl) (fld ! refl (stop !)))) (look-in ! 0 (sub ! 0 refl (whole !))))) (from ! (stop !)) (init ! 13 refl (tt, (tt, (record { fits = was .1 }, tt)))) $
+    assigns ! (of-opd ! (load ! (from ! (hop ! (look ! 17 refl) (fld ! refl (stop !)))) (look-in ! 0 (sub ! 1 refl (whole !))))) (from ! (stop !)) (init ! 11 refl (tt, record { fits = was .0 })) $
+    move ! (1 ∷ 5 ∷ []) $
+    called 𝓤 H A W κ′ q′ h n ! (fmOf 𝓤 H (W .laws) 𝓣) (was .0) gn FrameAt known (((κ′, tt), (q′, tt), tt, args κ′ h n, vals κ′ h n), tt) S.the-row (frameIn h n) (asked 𝓤 H A W κ′ q′ h n ok) (λ u. id⊢ 𝓤 _)
+    (and-then ! (load ! (from ! (stop !)) (look ! 13 refl)) (and-then ! (load ! (from ! (stop !)) (look ! 11 refl)) (and-then ! (load ! (from ! (stop !)) (look ! 15 refl)) (no-more !)))) (λ u r e is.
+    -- [the frame; 'a's token; what the reader owns; the struct's cell; the open borrow; obs; auth; n's; _6; …; _5; …; _4; …; _3; …; _2; …; _1; …; room for _0; …]
+    land ! (from ! (stop !)) (init ! 10 refl (EL.lawful S.the-type S′.the-laws 𝓤 H A W tt .typed r _ is .0)) $
+    afters 𝓤 H A (𝓜 .mem) (𝓡 .run) W h ! (fmOf 𝓤 H (W .laws) 𝓣) known-after r u is (was .0) (and-then ! (load ! (from ! (stop !)) (look ! 13 refl)) (and-then ! (load ! (from ! (stop !)) (look ! 11 refl)) (no-more !))) (λ fits.
+    land ! (from ! (stop !)) (init ! 8 refl (tt, record { fits = fits })) $
+    assigns ! (of-opd ! (load ! (from ! (stop !)) (look ! 8 refl))) (from ! (hop ! (look ! 18 refl) (fld ! refl (stop !)))) (store-in ! 3 (sub ! 1 refl (whole !)) (tt, record { fits = fits })) $
+    assigns ! (of-opd ! (load ! (from ! (stop !)) (look ! 10 refl))) (from ! (stop !)) (init ! 20 refl (EL.lawful S.the-type S′.the-laws 𝓤 H A W tt .typed r _ is .0)) $
+    move ! (2 ∷ 3 ∷ 4 ∷ 5 ∷ 6 ∷ []) $ closed 𝓤 H A W κ κ′ q b o γ h ! tt (afterFrame (h .at) r) fits $
+    returns ! (look ! 18 refl) $ forget ! 6 refl $ forget ! 8 refl $ forget ! 10 refl $ forget ! 12 refl $ forget ! 14 refl $ forget ! 16 refl $ forget ! 18 refl $
+    move ! (18 ∷ 19 ∷ []) $ free1 ! $ move ! (16 ∷ 17 ∷ []) $ free1 ! $ move ! (14 ∷ 15 ∷ []) $ free1 ! $ move ! (12 ∷ 13 ∷ []) $ free1 ! $ move ! (10 ∷ 11 ∷ []) $ free1 ! $ move ! (8 ∷ 9 ∷ []) $ free1 ! $ move ! (6 ∷ 7 ∷ []) $ free1 ! $ free0 ! $
+    keep ! (0 ∷ 1 ∷ 2 ∷ 4 ∷ 3 ∷ []) $ by ! (exits 𝓤 S.the-row Within frameIn nextFrame H A W κ κ′ q q′ bounds b o γ h n gn r u (afterFrame (h .at) r) e (ap (afterFrame (h .at)) e))))))))))))))
