@@ -56,6 +56,11 @@ conj-true (b ∷ bs) h = rw (h .0) (from-true bs (h .1))
 
 -- ---- choices
 
+-- whether a test is true or false
+pub either-way : {C : Type 0} (b : Bool) → (b ≡ true → C) → (b ≡ false → C) → C
+either-way true f g = f refl
+either-way false f g = g refl
+
 -- what holds of x where b is true and of y where it is false holds of the one that b picks
 pub by-test : {A : Type 0} (C : A → Type 0) (b : Bool) {x y : A} → (b ≡ true → C x) → (b ≡ false → C y) → C (cond b x y)
 by-test C true f g = f refl

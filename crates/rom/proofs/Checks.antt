@@ -1,6 +1,6 @@
 -- The checks of a call at a place of an image.
 -- Assumes nothing.
-use mathlib.Core.Path.{_≡_, refl, sym, _∙_}
+use mathlib.Core.Path.{_≡_, sym, _∙_}
 use mathlib.Core.Bool.{Bool, true, false, not}
 use mathlib.Core.List.{List, [], _∷_}
 use Prim.Native.Nat.{ℕ, _*_, _/_, _≤_, _<_}
@@ -9,7 +9,7 @@ use borrow.Author.Tests.{le-leb, lt-leb, leb-true, ltb-true, leb-false, not-fals
 use lib.Dec.{leb, ltb}
 use lib.ListN.{length}
 use Rattle.base.specs.Refusals.{IMAGE, BEYOND}
-use Rattle.base.proofs.Booleans.{both-true}
+use Rattle.base.proofs.Booleans.{both-true, either-way}
 use Rattle.base.proofs.Faults.{none-applies}
 use Rattle.rom.specs.Bits.{imageLimit, imageValid, imageFault}
 
@@ -32,8 +32,7 @@ in-image s a e h = let f = no-fault s e h in (leb-false _ _ (f .1), valid-length
 
 -- a bit is at or past the end exactly when the byte that holds it is
 pub bit-beyond : (s : List ℕ) (bit : ℕ) → leb (length s) (bit / 8) ≡ leb (8 * length s) bit
-bit-beyond s bit = go (leb (length s) (bit / 8)) refl
-  where
-    go : (b : Bool) → leb (length s) (bit / 8) ≡ b → leb (length s) (bit / 8) ≡ leb (8 * length s) bit
-    go true e = let h = leb-true (length s) (bit / 8) e in rw (e, le-leb (8 * length s) bit (omega arith))
-    go false e = let h = leb-false (length s) (bit / 8) e in rw (e, lt-leb (8 * length s) bit (omega arith))
+bit-beyond s bit =
+    either-way (leb (length s) (bit / 8))
+    (λ e. let h = leb-true (length s) (bit / 8) e in rw (e, le-leb (8 * length s) bit (omega arith)))
+    (λ e. let h = leb-false (length s) (bit / 8) e in rw (e, lt-leb (8 * length s) bit (omega arith)))

@@ -8,6 +8,7 @@ use mathlib.Core.List.{List, [], _∷_, _++_}
 use Prim.Native.Nat.{ℕ, zero, suc, _+_, _*_, _≤_}
 use native.Mathlib.Omega.{arith}
 use lib.ListN.{length, length-append}
+use Rattle.base.proofs.Booleans.{either-way, by-test}
 use Rattle.rom.specs.Items.{Code, ItemAnswer, whole, cut, Lawful, bitsAll, Encoded, Ended, last, more, Phrase, There, phrase, none, itemsOf, itemsFrom, hasStop}
 use Rattle.rom.proofs.Encoding.{begins-room, begins-join, begins-split}
 
@@ -49,13 +50,9 @@ module _ (C : Code) (s : List ℕ) (read : ℕ → ItemAnswer (C .Item)) (lawful
   unfolding itemsFrom
   step at n = go (read at) refl
     where
-      by-stop : {f : C .Item} {m : ℕ} → read at ≡ whole f m → (b : Bool) → C .stops f ≡ b → Step at n (f ∷ cond b [] (itemsFrom C read m n))
-      by-stop e true t = stop e t
-      by-stop e false t = item e t
-
       go : (r : ItemAnswer (C .Item)) → read at ≡ r → Step at n (itemsOf C r (λ next. itemsFrom C read next n))
       go cut e = nothing e
-      go (whole f m) e = by-stop e (C .stops f) refl
+      go (whole f m) e = by-test (λ l. Step at n (f ∷ l)) (C .stops f) (λ t. stop e t) (λ t. item e t)
 
   -- the image's bits begin with those of the items that are read
   read-encoded : (n at : ℕ) → at ≤ 8 * length s → Encoded C s at (itemsFrom C read at n)
@@ -122,21 +119,19 @@ module _ (C : Code) (s : List ℕ) (read : ℕ → ItemAnswer (C .Item)) (lawful
 
     -- the items there are those that are read
     pub there-read : (fs : List (C .Item)) → There C s at fs ↔ (all ≡ fs)
-    there-read fs = (are, λ e. subst (There C s at) e (by-stop (hasStop C all) refl))
+    there-read fs = (are, λ e. subst (There C s at) e (either-way (hasStop C all) by-phrase by-none))
       where
-        no-stop : ((gs : List (C .Item)) → Phrase C s at gs → ⊥) → (b : Bool) → hasStop C all ≡ b → b ≡ false
-        no-stop n true t = absurd (n all (phrase-found all .1 (refl, t)))
-        no-stop n false t = refl
-
         are : There C s at fs → all ≡ fs
         are (phrase p) = phrase-found fs .0 p .0
         are (none n l) =
-            let b = beginning fs (8 * length s) at (enough at (l .encoded)) (l .encoded) (no-stop n (hasStop C all) refl) in
+            let b = beginning fs (8 * length s) at (enough at (l .encoded)) (l .encoded) (either-way (hasStop C all) (λ t. absurd (n all (phrase-found all .1 (refl, t)))) (λ t. t)) in
             b .1 ∙ append-nothing fs (b .0) (rw (b .1) at (l .longest all (read-encoded (8 * length s) at room)))
 
-        by-stop : (b : Bool) → hasStop C all ≡ b → There C s at all
-        by-stop true t = phrase (phrase-found all .1 (refl, t))
-        by-stop false t = none
+        by-phrase : hasStop C all ≡ true → There C s at all
+        by-phrase t = phrase (phrase-found all .1 (refl, t))
+
+        by-none : hasStop C all ≡ false → There C s at all
+        by-none t = none
             (λ gs p. let g = phrase-found gs .0 p in true≢false (sym (g .1) ∙ rw (← g .0) t))
             (record {
               encoded = read-encoded (8 * length s) at room;

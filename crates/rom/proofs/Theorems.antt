@@ -2,17 +2,18 @@
 -- Assumes nothing.
 use mathlib.Core.Path.{_≡_, refl, sym, ap, _∙_}
 use mathlib.Core.Logic.{_↔_}
-use mathlib.Core.Bool.{Bool, true, false}
+use mathlib.Core.Bool.{true}
 use mathlib.Core.List.{List, _∷_}
 use Prim.Native.Nat.{ℕ, _+_, _*_, _≤_, _<_}
 use native.Mathlib.Omega.{arith}
 use borrow.Author.Tests.{lt-leb, eqb-true, eqb-false}
 use lib.Dec.{leb, eqb}
 use lib.ListN.{length, length-append}
+use Rattle.base.proofs.Booleans.{either-way}
 use Rattle.rom.specs.Bits.{imageValid, imageFault}
 use Rattle.rom.specs.Frames.{bitsOf}
 use Rattle.rom.specs.Items.{Ended, hasStop, bitsAll}
-use Rattle.rom.specs.Phrases.{frameCode, PhraseAt, framesAt, walkRefused, walkedOver, walkOf}
+use Rattle.rom.specs.Phrases.{frameCode, PhraseAt, framesAt, walkedOver, walkOf}
 use Rattle.rom.specs.Theorems.{WalkAccepts, WalkCounts, WalkRefuses, PhraseUnique, FramesRead}
 use Rattle.rom.specs.declared.frames.Frame.{Frame}
 use Rattle.rom.specs.declared.phrases.Walked.{Walked}
@@ -40,13 +41,10 @@ module _ (P : ℕ) (s : List ℕ) (a : ℕ) where
   -- an accepted walk had no fault and found a stop
   walk-taken : walkOf P s a .refusal ≡ 0 → (imageFault s (leb (length s) a) ≡ 0) × (hasStop (frameCode P) (framesAt P s a) ≡ true)
   unfolding walkOf
-  walk-taken h = go (eqb (imageFault s (leb (length s) a)) 0) refl (hasStop (frameCode P) (framesAt P s a)) refl h
-    where
-      go : (f : Bool) → eqb (imageFault s (leb (length s) a)) 0 ≡ f → (t : Bool) → hasStop (frameCode P) (framesAt P s a) ≡ t
-          → walkOf P s a .refusal ≡ 0 → (imageFault s (leb (length s) a) ≡ 0) × (hasStop (frameCode P) (framesAt P s a) ≡ true)
-      go true f true t h = (eqb-true _ _ f, t)
-      go true f false t h = absurd (omega (arith, rw (f, t) at h))
-      go false f t e h = absurd (eqb-false _ _ f (rw f at h))
+  walk-taken h =
+      either-way (eqb (imageFault s (leb (length s) a)) 0)
+      (λ f. either-way (hasStop (frameCode P) (framesAt P s a)) (λ t. (eqb-true _ _ f, t)) (λ t. absurd (omega (arith, rw (f, t) at h))))
+      (λ f. absurd (eqb-false _ _ f (rw f at h)))
 
   phrase-of-walk : walkOf P s a .refusal ≡ 0 → (imageValid s ≡ true) × ((fs : List Frame) × PhraseAt P s a fs)
   phrase-of-walk h =
@@ -62,11 +60,9 @@ pub walk-accepts : WalkAccepts
 walk-accepts P s a = (phrase-of-walk P s a, λ h. ap (λ (w : Walked). w .refusal) (walk-counts P s a (h .1 .0) (h .0) (h .1 .1)))
 
 pub walk-refuses : WalkRefuses
-walk-refuses P s a v inside n = walk-is P s a inside v ∙ go (hasStop (frameCode P) (framesAt P s a)) refl
-  where
-    go : (b : Bool) → hasStop (frameCode P) (framesAt P s a) ≡ b → walkedOver P (framesAt P s a) ≡ walkRefused 10
-    go true t = absurd (n _ (found P s a inside _ .1 (refl, t)))
-    go false t = rw t
+walk-refuses P s a v inside n =
+    walk-is P s a inside v
+    ∙ either-way (hasStop (frameCode P) (framesAt P s a)) (λ t. absurd (n _ (found P s a inside _ .1 (refl, t)))) (λ t. rw t)
 
 pub phrase-unique : PhraseUnique
 phrase-unique P s a fs gs p q =
