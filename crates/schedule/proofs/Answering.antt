@@ -1,14 +1,14 @@
 -- Every list of calls gets the answers that are due.
 -- Assumes nothing.
 use mathlib.Core.Path.{_≡_, refl, sym, ap, ap₂, _∙_, subst, subst₂}
-use mathlib.Core.Bool.{Bool, true, false}
+use mathlib.Core.Bool.{Bool}
 use mathlib.Core.List.{List, [], _∷_}
 use Prim.Native.Nat.{ℕ, _+_, _*_}
 use native.Mathlib.Nat.{add-zero}
 use borrow.Author.Tests.{eqb-true, eqb-false}
 use lib.Dec.{eqb}
 use lib.ListN.{length}
-use Rattle.base.proofs.Booleans.{cond-true, cond-false}
+use Rattle.base.proofs.Booleans.{either-way, cond-true, cond-false}
 use Rattle.schedule.specs.Form.{Form, KeepsSome, Item}
 use Rattle.schedule.specs.Types.{Told, Speech}
 use Rattle.schedule.specs.Calls.{Call, step, run, read, write, Answer, Device, Table, chipAfter, refusalOf, byteOf, toldBy, answerOf, answersOf, stepsIn, writeDue, refusalDue, byteDue, toldDue, answerDue, answersDue, Refused, WritesRefused, Speaks, AnswersDue}
@@ -51,29 +51,33 @@ module _ (F : Form) (keeps : KeepsSome F) (T : Table) (image : List ℕ) (D : De
 
   -- a step with a voice file that is valid, or not
   on-step : {n : ℕ} {c : D .Chip} (voice : List ℕ) → Speaking n c → Answered n c (step voice)
-  on-step {n} {c} voice s = go (eqb (T .fault voice) 0) refl
-    where
-      go : (t : Bool) → eqb (T .fault voice) 0 ≡ t → Answered n c (step voice)
-      go true e =
-          let g = eqb-true (T .fault voice) 0 e in
-          let h = K .step-answer voice c (s .still) g in
-          record {
-            refusal = ap (λ (r : ℕ × Told). r .0) h ∙ sym g;
-            byte = refl;
-            told = ap (λ (r : ℕ × Told). r .1) h ∙ next F keeps image (speech c) chain (s .state) .told ∙ sym (cond-true _ _ _ e);
-            after = rw e (stepping voice g n c s);
-          }
-      go false e =
-          let h = K .step-refused voice c (s .still) (eqb-false (T .fault voice) 0 e) in
-          record {
-            refusal = ap (λ (r : D .Chip × (ℕ × Told)). r .1 .0) h;
-            byte = refl;
-            told = ap (λ (r : D .Chip × (ℕ × Told)). r .1 .1) h ∙ sym (cond-false _ _ _ e);
-            after = rw e (subst (λ (r : D .Chip × (ℕ × Told)). Speaking (n + 0) (r .0)) (sym h) (stays s));
-          }
+  on-step {n} {c} voice s =
+      either-way (eqb (T .fault voice) 0)
+      (λ e.
+      let g = eqb-true (T .fault voice) 0 e in
+      let h = K .step-answer voice c (s .still) g in
+      record {
+        refusal = ap (λ (r : ℕ × Told). r .0) h ∙ sym g;
+        byte = refl;
+        told = ap (λ (r : ℕ × Told). r .1) h ∙ next F keeps image (speech c) chain (s .state) .told ∙ sym (cond-true _ _ _ e);
+        after = rw e (stepping voice g n c s);
+      })
+      (λ e.
+      let h = K .step-refused voice c (s .still) (eqb-false (T .fault voice) 0 e) in
+      record {
+        refusal = ap (λ (r : D .Chip × (ℕ × Told)). r .1 .0) h;
+        byte = refl;
+        told = ap (λ (r : D .Chip × (ℕ × Told)). r .1 .1) h ∙ sym (cond-false _ _ _ e);
+        after = rw e (subst (λ (r : D .Chip × (ℕ × Told)). Speaking (n + 0) (r .0)) (sym h) (stays s));
+      })
 
   on-run : {n : ℕ} {c : D .Chip} (voice : List ℕ) (m : ℕ) → Speaking n c → Answered n c (run voice m)
-  on-run {n} {c} voice m s = go (eqb (T .fault voice) 0) refl
+  on-run {n} {c} voice m s =
+      either-way (eqb (T .fault voice) 0)
+      (λ e.
+      let g = eqb-true (T .fault voice) 0 e in
+      ran m (cond-true _ _ _ e) (K .run-taken voice m c (s .still) g) (sym g) (after-steps (D .stepped voice) Speaking (stepping voice g) m s))
+      (λ e. ran 0 (cond-false _ _ _ e) (K .run-refused voice m c (s .still) (eqb-false (T .fault voice) 0 e)) refl (stays s))
     where
       -- by what the run gives, and the steps that it takes
       ran : (d : ℕ) {r : D .Chip × ℕ} → stepsIn T (run voice m) ≡ d → D .ran voice m c ≡ r → r .1 ≡ T .fault voice → Speaking (n + d) (r .0)
@@ -84,13 +88,6 @@ module _ (F : Form) (keeps : KeepsSome F) (T : Table) (image : List ℕ) (D : De
         told = refl;
         after = subst₂ (λ (y : ℕ) (r : D .Chip × ℕ). Speaking (n + y) (r .0)) (sym e) (sym h) z;
       }
-
-      go : (t : Bool) → eqb (T .fault voice) 0 ≡ t → Answered n c (run voice m)
-      go true e =
-          let g = eqb-true (T .fault voice) 0 e in
-          ran m (cond-true _ _ _ e) (K .run-taken voice m c (s .still) g) (sym g)
-          (after-steps (D .stepped voice) Speaking (stepping voice g) m s)
-      go false e = ran 0 (cond-false _ _ _ e) (K .run-refused voice m c (s .still) (eqb-false (T .fault voice) 0 e)) refl (stays s)
 
   on-read : {n : ℕ} {c : D .Chip} → Speaking n c → Answered n c read
   on-read {n} {c} s =

@@ -1,11 +1,12 @@
 -- The items that stand at a bit, read one after another.
 -- Assumes nothing.
 use mathlib.Core.Path.{_≡_, refl, subst}
-use mathlib.Core.Bool.{Bool, true, false, cond}
+use mathlib.Core.Bool.{true, false}
 use mathlib.Core.List.{List, [], _∷_}
 use Prim.Native.Nat.{ℕ, zero, suc, _+_, _*_, _≤_}
 use native.Mathlib.Omega.{arith}
 use lib.ListN.{length}
+use Rattle.base.proofs.Booleans.{by-test}
 use Rattle.rom.specs.Frames.{isStop}
 use Rattle.rom.specs.Items.{Code, ItemAnswer, whole, cut, bitsAll, Encoded, itemsFrom, itemsOf, There, phrase, none}
 use Rattle.rom.proofs.Encoding.{begins-room}
@@ -64,16 +65,12 @@ module _ (F : Form) (image : List ℕ) where
       go cut e = end e l
   chain (suc n) p h l = go (chain n) (read p) refl
     where
-      by-stop : Chained n → {i : Item} {next : ℕ} → read p ≡ whole i next → (b : Bool) → isStop (i .1) ≡ b
-          → Chain F image p (i ∷ cond b [] (itemsFrom (itemCode F) read next n))
-      by-stop ih {i} {next} e true t = let a = after p e in stop (subst (λ (q : ℕ). read p ≡ whole i q) (a .is) e) t
-      by-stop ih {i} {next} e false t =
-          let a = after p e in
-          more (subst (λ (q : ℕ). read p ≡ whole i q) (a .is) e) t
-          (subst (λ (q : ℕ). Chain F image q (itemsFrom (itemCode F) read next n)) (a .is) (ih next (omega (arith, a .further)) (a .inside)))
-
       go : Chained n → (r : ItemAnswer Item) → read p ≡ r → Chain F image p (itemsOf (itemCode F) r (λ next. itemsFrom (itemCode F) read next n))
-      go ih (whole i next) e = by-stop ih e (isStop (i .1)) refl
+      go ih (whole i next) e =
+          let a = after p e in
+          let w : read p ≡ whole i (p + width F i) = subst (λ (q : ℕ). read p ≡ whole i q) (a .is) e in
+          by-test (λ is. Chain F image p (i ∷ is)) (isStop (i .1)) (λ t. stop w t)
+          (λ t. more w t (subst (λ (q : ℕ). Chain F image q (itemsFrom (itemCode F) read next n)) (a .is) (ih next (omega (arith, a .further)) (a .inside))))
       go ih cut e = end e l
 
   -- the items there are read one after another

@@ -2,12 +2,13 @@
 -- counted, the samples counted and those left are the samples of a whole frame at every rate.
 -- Assumes nothing.
 use mathlib.Core.Path.{_≡_, refl}
-use mathlib.Core.Bool.{Bool, true, false}
+use mathlib.Core.Bool.{true, false}
 use Prim.Native.Nat.{ℕ, zero, suc, _+_, _*_, _<_}
 use native.Mathlib.Omega.{arith}
 use borrow.Author.Tests.{eq-eqb, ne-eqb, eqb-true}
 use lib.Dec.{eqb}
 use Rattle.base.specs.Units.{frames, samplesPerInterval, intervalsPerFrame, intervalsOf, samplesOf}
+use Rattle.base.proofs.Booleans.{either-way}
 use Rattle.clock.specs.Counters.{started, counted, frameBegins}
 use Rattle.schedule.specs.Types.{Clock}
 use Rattle.schedule.specs.Speech.{begun}
@@ -33,11 +34,8 @@ module _ (t : Clock) where
   left-begins (none o s i) = rw (eq-eqb (t .sample .0) 0 s, eq-eqb (t .interval .0) 0 i)
 
   pub left-within : {l : ℕ} → Left t (suc l) → frameBegins t ≡ false
-  left-within (some o s i p e) = go (eqb (t .sample .0) 0) refl
-    where
-      go : (b : Bool) → eqb (t .sample .0) 0 ≡ b → frameBegins t ≡ false
-      go true z = rw (z, ne-eqb (t .interval .0) 0 (λ y. omega (arith, y, eqb-true (t .sample .0) 0 z)))
-      go false z = rw z
+  left-within (some o s i p e) =
+      either-way (eqb (t .sample .0) 0) (λ z. rw (z, ne-eqb (t .interval .0) 0 (λ y. omega (arith, y, eqb-true (t .sample .0) 0 z)))) (λ z. rw z)
 
   -- one more is counted
   pub left-on : {l : ℕ} → Left t (suc l) → Left (counted t) l

@@ -1,13 +1,14 @@
 -- What is due, one item at a time: before the first of the items, from its step on, and where there is none.
 -- Assumes nothing.
 use mathlib.Core.Path.{_≡_, refl}
-use mathlib.Core.Bool.{Bool, true, false, cond, _&&_}
+use mathlib.Core.Bool.{true, false, and-false}
 use mathlib.Core.List.{List, [], _∷_}
 use Prim.Native.Nat.{ℕ, _+_, _≤_, _<_}
 use native.Mathlib.Nat.{add-assoc, add-zero}
 use native.Mathlib.Omega.{arith}
 use borrow.Author.Tests.{eq-eqb, ne-eqb, le-leb, lt-leb, lt-ltb, le-ltb}
 use lib.ListN.{length, length-append}
+use Rattle.base.proofs.Booleans.{by-test}
 use Rattle.rom.specs.Frames.{isStop}
 use Rattle.rom.specs.Items.{bitsAll}
 use Rattle.schedule.specs.Form.{Form, Item, itemCode, lasting}
@@ -17,14 +18,6 @@ use Rattle.schedule.specs.Schedule.{dueReport, dueFrom, endFrom, toldFro
 -- the bits of an item
 abbrev pub width : Form → Item → ℕ
 width F i = length (itemCode F .bits i)
-
-not-below : (b : Bool) {m x y : ℕ} → m ≤ x → m ≤ y → m ≤ cond b x y
-not-below true h k = h
-not-below false h k = k
-
-and-false : (b : Bool) → (b && false) ≡ false
-and-false true = refl
-and-false false = refl
 
 module _ (F : Form) where
   -- ---- the step of the end: a stop's, or that of the items after an item that is none
@@ -42,18 +35,15 @@ module _ (F : Form) where
   pub end-after : (at : ℕ) (is : List Item) → at ≤ endFrom F at is
   unfolding endFrom
   end-after at [] = omega arith
-  end-after at (i ∷ is) = not-below (isStop (i .1)) (omega arith) (omega (arith, end-after (at + lasting F i) is))
+  end-after at (i ∷ is) = by-test (λ n. at ≤ n) (isStop (i .1)) (λ k. omega arith) (λ k. omega (arith, end-after (at + lasting F i) is))
 
   -- ---- before the first item's step
 
   pub told-ahead : (at n : ℕ) (is : List Item) → n < at → toldFrom F at is n ≡ tells NoReport
   unfolding toldFrom
   told-ahead at n [] h = rw (ne-eqb n at (omega arith))
-  told-ahead at n (i ∷ is) h = rw (ne-eqb n at (omega arith)) (go (isStop (i .1)) (told-ahead (at + lasting F i) n is (omega arith)))
-    where
-      go : (b : Bool) → toldFrom F (at + lasting F i) is n ≡ tells NoReport → cond b (tells NoReport) (toldFrom F (at + lasting F i) is n) ≡ tells NoReport
-      go true e = refl
-      go false e = e
+  told-ahead at n (i ∷ is) h =
+      rw (ne-eqb n at (omega arith)) (by-test (λ t. t ≡ tells NoReport) (isStop (i .1)) (λ k. refl) (λ k. told-ahead (at + lasting F i) n is (omega arith)))
 
   due-ahead : (at n : ℕ) (is : List Item) → n < at → dueFrom F at is n ≡ []
   unfolding dueFrom

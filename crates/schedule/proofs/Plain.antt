@@ -1,12 +1,12 @@
 -- Frames without a prefix as items of the plain form.
 -- Assumes nothing.
 use mathlib.Core.Path.{_≡_, refl, ap, _∙_}
-use mathlib.Core.Bool.{Bool, true, false, cond}
 use mathlib.Core.List.{List, [], _∷_, _++_, map}
 use Prim.Native.Nat.{ℕ, zero, suc, _*_}
 use native.Mathlib.Nat.{add-zero}
 use native.Mathlib.Omega.{arith}
 use lib.ListN.{length}
+use Rattle.base.proofs.Booleans.{either-way}
 use Rattle.rom.specs.Bits.{field, digits}
 use Rattle.rom.specs.Frames.{bitsOf, isStop}
 use Rattle.rom.specs.Reader.{frameAt}
@@ -52,12 +52,7 @@ module _ (P : ℕ) where
         go : ((at : ℕ) → itemsFrom (itemCode (plainForm P)) (readItem (plainForm P) s) at n ≡ map plain (framesFrom P s at n)) → (r : FrameAnswer)
             → itemsOf (itemCode (plainForm P)) (withPrefix 0 r) (λ next. itemsFrom (itemCode (plainForm P)) (readItem (plainForm P) s) next n)
             ≡ map plain (itemsOf (frameCode P) (itemAnswerOf r) (λ next. framesFrom P s next n))
-        go ih (Whole f next) = by-stop (isStop f)
-          where
-            by-stop : (b : Bool)
-                → (plain f ∷ cond b [] (itemsFrom (itemCode (plainForm P)) (readItem (plainForm P) s) next n)) ≡ map plain (f ∷ cond b [] (framesFrom P s next n))
-            by-stop true = refl
-            by-stop false = ap (λ (is : List Item). plain f ∷ is) (ih next)
+        go ih (Whole f next) = either-way (isStop f) (λ t. rw t) (λ t. rw t (ap (λ (is : List Item). plain f ∷ is) (ih next)))
         go ih Cut = refl
 
     -- the frames there, as items, are the items there
