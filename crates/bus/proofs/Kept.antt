@@ -1,7 +1,7 @@
 -- A valid control stays valid under a taken byte, and a sound that is not put at rest sounds on or stays silent.
 -- Assumes nothing.
 use mathlib.Core.Path.{_≡_, refl, subst}
-use mathlib.Core.Bool.{Bool, true, false, cond, true≢false}
+use mathlib.Core.Bool.{true, false, true≢false}
 use mathlib.Core.List.{List, [], _∷_}
 use Prim.Native.Nat.{ℕ, zero, suc, _+_, _*_, _/_, _%_, _≤_, _<_}
 use native.Mathlib.Numerals.{add-one}
@@ -9,10 +9,10 @@ use native.Mathlib.Omega.{arith}
 use borrow.Author.Tests.{leb-true, eqb-true, eqb-false, not-false}
 use lib.Dec.{eqb}
 use lib.ListN.{length, drop, set, length-set}
-use Rattle.base.proofs.Booleans.{both-true}
+use Rattle.base.proofs.Booleans.{both-true, by-test}
 use Rattle.rom.specs.Bits.{imageLimit}
 use Rattle.rom.proofs.Checks.{valid-length}
-use Rattle.bus.specs.Types.{Mode, Idle, Rom, Waiting, External, AddressRegister, Fifo, Port, Clock, Control, Command, Nothing, ReadByte, ReadAndBranch, LoadAddress, Speak, SpeakExternal, Reset, Accepted}
+use Rattle.bus.specs.Types.{Mode, Idle, Rom, Waiting, External, Fifo, Control, Command, Nothing, ReadByte, ReadAndBranch, LoadAddress, Speak, SpeakExternal, Reset, Accepted}
 use Rattle.address.specs.Addresses.{positionLimit, addressLimit, nibbles, withNibble}
 use Rattle.address.proofs.Ranges.{address-ranges, address-in-range}
 use Rattle.clock.specs.Counters.{clockValid}
@@ -22,7 +22,7 @@ use Rattle.control.specs.State.{startLevel, powerUpControl}
 use Rattle.control.specs.Validity.{speaks, leastLevel, mostLevel, mostUsed, fifoValid, portValid}
 use Rattle.control.specs.Commands.{commandOf, beyondAt, beyond}
 use Rattle.control.proofs.Ranges.{ControlRanges, control-ranges, control-in-ranges, mode-ranges}
-use Rattle.bus.specs.Commands.{soundKept, talking, reset, obeyed}
+use Rattle.bus.specs.Commands.{obeyed}
 use Rattle.bus.specs.Accept.{buffered, acceptedIn, accepted}
 use Rattle.bus.specs.Laws.{AcceptKeepsValid, SoundingKept}
 use Rattle.bus.proofs.Accepting.{room}
@@ -103,25 +103,21 @@ module _ (image : List ℕ) (small : length image ≤ imageLimit) (k : Control) 
       → ControlRanges (acceptedIn m image k b .control)
   accepted-ranges Idle e l h = obeyed-ranges image small k r e b (commandOf b) h
   accepted-ranges Rom e l h = power-up-ranges
-  accepted-ranges Waiting e l h = go (eqb (k .fifo .level + 1) startLevel) refl
-    where
-      held : fifoValid Waiting (k .fifo) ≡ true
-      held = subst (λ (m : Mode). fifoValid m (k .fifo) ≡ true) e (r .fifo)
-
-      go : (t : Bool) → eqb (k .fifo .level + 1) startLevel ≡ t
-          → ControlRanges (cond t (talking External (buffered k b)) (soundKept (buffered k b)) .control)
-      go true t =
-          let n = eqb-true (k .fifo .level + 1) startLevel t in
-          record {
-            address = r .address;
-            fifo = appended-valid Waiting External (k .fifo) b held (omega arith) (omega arith) (omega arith);
-            port = subst (λ (m : Mode). portValid m (k .port) ≡ true) e (r .port);
-            clock = refl;
-          }
-      go false t =
-          let n = eqb-false (k .fifo .level + 1) startLevel t in
-          let u = mode-ranges Waiting (k .fifo) held .at-most in
-          buffered-ranges (rw e (appended-valid Waiting Waiting (k .fifo) b held (omega arith) (omega (arith, n, u)) (omega arith)))
+  accepted-ranges Waiting e l h =
+      let held : fifoValid Waiting (k .fifo) ≡ true = subst (λ (m : Mode). fifoValid m (k .fifo) ≡ true) e (r .fifo) in
+      by-test (λ (a : Accepted). ControlRanges (a .control)) (eqb (k .fifo .level + 1) startLevel)
+      (λ t.
+      let n = eqb-true (k .fifo .level + 1) startLevel t in
+      record {
+        address = r .address;
+        fifo = appended-valid Waiting External (k .fifo) b held (omega arith) (omega arith) (omega arith);
+        port = subst (λ (m : Mode). portValid m (k .port) ≡ true) e (r .port);
+        clock = refl;
+      })
+      (λ t.
+      let n = eqb-false (k .fifo .level + 1) startLevel t in
+      let u = mode-ranges Waiting (k .fifo) held .at-most in
+      buffered-ranges (rw e (appended-valid Waiting Waiting (k .fifo) b held (omega arith) (omega (arith, n, u)) (omega arith))))
   accepted-ranges External e l h =
       buffered-ranges (rw e (appended-valid External External (k .fifo) b (subst (λ (m : Mode). fifoValid m (k .fifo) ≡ true) e (r .fifo)) (omega arith) (omega arith) (omega arith)))
 
@@ -146,15 +142,10 @@ module _ (image : List ℕ) (k : Control) (b : ℕ) where
   obeyed-sounding SpeakExternal h = refl
   obeyed-sounding Reset h = absurd (true≢false h)
 
-  -- a byte that puts the sound at rest, or keeps the clock
-  either : (t : Bool) (a : Accepted) (d : Control) → a .rests ≡ true → d .clock ≡ k .clock → SameSounding k (cond t a (soundKept d))
-  either true a d e f h = absurd (true≢false (rw e at h))
-  either false a d e f h = rw f
-
   accepted-sounding : (m : Mode) → SameSounding k (acceptedIn m image k b)
   accepted-sounding Idle = obeyed-sounding (commandOf b)
   accepted-sounding Rom = λ h. absurd (true≢false h)
-  accepted-sounding Waiting = either (eqb (k .fifo .level + 1) startLevel) (talking External (buffered k b)) (buffered k b) refl refl
+  accepted-sounding Waiting = by-test (SameSounding k) (eqb (k .fifo .level + 1) startLevel) (λ t h. absurd (true≢false h)) (λ t h. refl)
   accepted-sounding External = λ h. refl
 
 pub sounding-kept : SoundingKept

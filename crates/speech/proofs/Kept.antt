@@ -1,7 +1,7 @@
 -- A valid control steps to a valid control, and begins no frame that is not one of the table.
 -- Assumes nothing.
 use mathlib.Core.Path.{_≡_, refl, ap, subst}
-use mathlib.Core.Bool.{Bool, true, false, cond, _||_}
+use mathlib.Core.Bool.{Bool, true, false, _||_}
 use mathlib.Core.List.{List, [], _∷_, _++_}
 use Prim.Native.Nat.{ℕ, zero, suc, _+_, _-_, _*_, _/_, _%_, _≤_, _<_}
 use native.Mathlib.Omega.{arith}
@@ -10,7 +10,7 @@ use lib.Dec.{eqb, ltb}
 use lib.ListN.{length, drop, replicate, length-append, length-drop, length-replicate}
 use lib.Seq.{drop-drop}
 use Rattle.base.specs.Units.{intervalsPerFrame}
-use Rattle.base.proofs.Booleans.{both-true}
+use Rattle.base.proofs.Booleans.{both-true, either-way, by-test}
 use Rattle.rom.specs.Bits.{imageLimit}
 use Rattle.rom.specs.Frames.{Proper, isStop}
 use Rattle.rom.specs.Reader.{frameAt}
@@ -74,11 +74,8 @@ counted-valid speaks t on =
 -- the port stays valid where an idle mode stays idle
 port-valid : (m m′ : Mode) (p : Port) (i : Bool) → portValid m p ≡ true → (isIdle m ≡ true → isIdle m′ ≡ true)
     → portValid m′ (raisedPort i p) ≡ true
-port-valid m m′ p i h idle = go (p .pending) refl
-  where
-    go : (b : Bool) → p .pending ≡ b → portValid m′ (raisedPort i p) ≡ true
-    go true e = rw (e, idle (both-true (isIdle m) true (rw e at h) .0))
-    go false e = rw e (rw e at h)
+port-valid m m′ p i h idle =
+    either-way (p .pending) (λ e. rw (e, idle (both-true (isIdle m) true (rw e at h) .0))) (λ e. rw e (rw e at h))
 
 -- ---- a step
 
@@ -121,11 +118,14 @@ module _ (P : ℕ) (image : List ℕ) (small : length image ≤ imageLimit) (k :
   module _ (on : k .clock .sounding ≡ true) where
     begun-kept : (f : Frame) (p : ℕ) (g : Fifo) → Proper P f → p ≤ positionLimit → (isStop f ≡ false → fifoValid (k .mode) g ≡ true)
         → Kept P k (frameBegun k f p g)
-    begun-kept f p g proper l h = record { control = go (isStop f) refl; sounds = on; playable = (proper, interval) }
-      where
-        go : (t : Bool) → isStop f ≡ t → ControlRanges (changed k (cond t Idle (k .mode)) p (cond t (emptied g) g) (counted (k .clock)))
-        go true e = changed-ranges Idle p (emptied g) (counted (k .clock)) l (λ i. refl) refl (counted-valid false (k .clock) on)
-        go false e = changed-ranges (k .mode) p g (counted (k .clock)) l (λ i. i) (h e) (counted-valid (speaks (k .mode)) (k .clock) on)
+    begun-kept f p g proper l h = record {
+      control =
+          either-way (isStop f)
+          (λ e. rw e (changed-ranges Idle p (emptied g) (counted (k .clock)) l (λ i. refl) refl (counted-valid false (k .clock) on)))
+          (λ e. rw e (changed-ranges (k .mode) p g (counted (k .clock)) l (λ i. i) (h e) (counted-valid (speaks (k .mode)) (k .clock) on)));
+      sounds = on;
+      playable = (proper, interval);
+    }
 
     rom-kept : k .mode ≡ Rom → (x : FrameAnswer) → x ≡ frameAt P image (k .address .position) → Kept P k (fromRom image k x)
     rom-kept m (Whole f next) a =
@@ -134,17 +134,13 @@ module _ (P : ℕ) (image : List ℕ) (small : length image ≤ imageLimit) (k :
     rom-kept m Cut a = out-kept _ (k .fifo) (omega (arith, address)) (subst (λ (m : Mode). fifoValid m (k .fifo) ≡ true) m (r .fifo))
 
     fifo-kept : k .mode ≡ External → (x : FrameAnswer) → x ≡ frameAt P (held k) (k .fifo .«used_bits») → Kept P k (fromFifo k x)
-    fifo-kept m (Whole f next) a = go (isStop f || ltb next (8 * k .fifo .level)) refl
-      where
-        external : fifoValid External (k .fifo) ≡ true
-        external = subst (λ (m : Mode). fifoValid m (k .fifo) ≡ true) m (r .fifo)
-
-        go : (t : Bool) → (isStop f || ltb next (8 * k .fifo .level)) ≡ t
-            → Kept P k (cond t (frameBegun k f (k .address .position) (usedUp (k .fifo) next)) (ranOut k (k .address .position) (emptied (k .fifo))))
-        go true t =
-            begun-kept f (k .address .position) (usedUp (k .fifo) next) (whole-frame P (held k) (k .fifo .«used_bits») a refl .proper) (address .0)
-            (λ n. rw m (used-up-valid (k .fifo) next external (ltb-true _ _ (rw n at t))))
-        go false t = out-kept (k .address .position) (emptied (k .fifo)) (address .0) refl
+    fifo-kept m (Whole f next) a =
+        let external = subst (λ (m : Mode). fifoValid m (k .fifo) ≡ true) m (r .fifo) in
+        by-test (Kept P k) (isStop f || ltb next (8 * k .fifo .level))
+        (λ t.
+        begun-kept f (k .address .position) (usedUp (k .fifo) next) (whole-frame P (held k) (k .fifo .«used_bits») a refl .proper) (address .0)
+        (λ n. rw m (used-up-valid (k .fifo) next external (ltb-true _ _ (rw n at t)))))
+        (λ t. out-kept (k .address .position) (emptied (k .fifo)) (address .0) refl)
     fifo-kept m Cut a = out-kept (k .address .position) (emptied (k .fifo)) (address .0) refl
 
     boundary-kept : (m : Mode) → k .mode ≡ m → Kept P k (boundaryIn P m image k)
@@ -156,26 +152,13 @@ module _ (P : ℕ) (image : List ℕ) (small : length image ≤ imageLimit) (k :
     within-kept : Kept P k (record { control = withClock (counted (k .clock)) k; action = within (k .clock); report = NoReport })
     within-kept = record {
       control = record { address = r .address; fifo = r .fifo; port = r .port; clock = counted-valid (speaks (k .mode)) (k .clock) on };
-      sounds = go-sounds (intervalBegins (k .clock));
-      playable = go-playable (intervalBegins (k .clock));
+      sounds = by-test (Sounds (k .clock .sounding) (k .clock .sounding)) (intervalBegins (k .clock)) (λ e. on) (λ e. on);
+      playable = by-test (Playable P) (intervalBegins (k .clock)) (λ e. interval) (λ e. tt);
     }
-      where
-        go-sounds : (t : Bool) → Sounds (k .clock .sounding) (k .clock .sounding) (cond t (Interpolate (k .clock .interval)) Continue)
-        go-sounds true = on
-        go-sounds false = on
-
-        go-playable : (t : Bool) → Playable P (cond t (Interpolate (k .clock .interval)) Continue)
-        go-playable true = interval
-        go-playable false = tt
 
   pub advanced-kept : Kept P k (advanced P image k)
   unfolding advanced
-  advanced-kept = go (k .clock .sounding) refl (frameBegins (k .clock))
-    where
-      go : (s : Bool) → k .clock .sounding ≡ s → (b : Bool)
-          → Kept P k
-          (cond s (cond b (boundaryIn P (k .mode) image k) (record { control = withClock (counted (k .clock)) k; action = within (k .clock); report = NoReport }))
-          (record { control = k; action = Silent; report = NoReport }))
-      go false s b = record { control = r; sounds = refl; playable = tt }
-      go true s true = boundary-kept s (k .mode) refl
-      go true s false = within-kept s
+  advanced-kept =
+      by-test (Kept P k) (k .clock .sounding)
+      (λ s. by-test (Kept P k) (frameBegins (k .clock)) (λ b. boundary-kept s (k .mode) refl) (λ b. within-kept s))
+      (λ s. record { control = r; sounds = refl; playable = tt })
