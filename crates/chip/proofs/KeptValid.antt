@@ -1,11 +1,13 @@
 -- A valid chip stays valid on the bus.
 -- Assumes nothing.
 use mathlib.Core.Path.{_≡_, refl}
-use mathlib.Core.Bool.{Bool, true, false, cond}
+use mathlib.Core.Bool.{true}
 use mathlib.Core.List.{List}
 use Prim.Native.Nat.{ℕ}
+use Rattle.base.proofs.Booleans.{either-way, by-test}
 use Rattle.base.proofs.Faults.{by-fault}
-use Rattle.sound.specs.State.{soundValid, restSound, atRest}
+use Rattle.sound.specs.declared.state.Sound.{Sound}
+use Rattle.sound.specs.State.{soundValid, atRest}
 use Rattle.control.specs.Validity.{portValid, controlValid}
 use Rattle.control.specs.Status.{acknowledgedPort}
 use Rattle.control.proofs.Ranges.{ControlRanges, control-ranges, control-in-ranges}
@@ -35,12 +37,10 @@ module _ (image : List ℕ) (c : Chip) (b : ℕ) (f : Found image c b) where
       (accept-keeps-valid image (c .control) b (f .image-valid) (control-in-ranges _ (ranges .control)) (f .no-wait) (f .not-beyond))
 
   written-ranges : ChipRanges (afterByte c (accepted image (c .control) b))
-  written-ranges = go (accepted image (c .control) b .rests) refl
-    where
-      go : (t : Bool) → accepted image (c .control) b .rests ≡ t
-          → ChipRanges (record { control = accepted image (c .control) b .control; sound = cond t restSound (c .sound) })
-      go true e = at-rest _ control-kept
-      go false e = record { control = control-kept; sound = ranges .sound; quiet = rw (sounding-kept image (c .control) b e) (ranges .quiet) }
+  written-ranges =
+      by-test (λ (s : Sound). ChipRanges (record { control = accepted image (c .control) b .control; sound = s })) (accepted image (c .control) b .rests)
+      (λ e. at-rest _ control-kept)
+      (λ e. record { control = control-kept; sound = ranges .sound; quiet = rw (sounding-kept image (c .control) b e) (ranges .quiet) })
 
 pub write-keeps-valid : WriteKeepsValid
 unfolding writeOf
@@ -51,11 +51,7 @@ write-keeps-valid image c b h =
 -- ---- an acknowledge and a read
 
 acknowledged-valid : (m : Mode) (p : Port) → portValid m p ≡ true → portValid m (acknowledgedPort p) ≡ true
-acknowledged-valid m p h = go (p .pending) refl
-  where
-    go : (t : Bool) → p .pending ≡ t → portValid m (acknowledgedPort p) ≡ true
-    go true t = rw t
-    go false t = rw t (rw t at h)
+acknowledged-valid m p h = either-way (p .pending) (λ t. rw t) (λ t. rw t (rw t at h))
 
 pub acknowledge-keeps-valid : AcknowledgeKeepsValid
 unfolding acknowledgeOf

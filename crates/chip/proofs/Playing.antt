@@ -1,7 +1,7 @@
 -- Steps within an interval in which a sample has been made: the control counts, and the sound plays on.
 -- Assumes nothing.
 use mathlib.Core.Path.{_≡_, refl, sym, ap, ap₂, _∙_, subst}
-use mathlib.Core.Bool.{Bool, true, false, not, cond, _&&_}
+use mathlib.Core.Bool.{Bool, true, false, not, _&&_}
 use mathlib.Core.List.{List, [], _∷_, _++_}
 use Prim.Native.Nat.{ℕ, zero, suc, _+_, _-_, _≤_}
 use native.Mathlib.Numerals.{add-one}
@@ -10,7 +10,7 @@ use borrow.Author.Tests.{ne-eqb, eqb-false, eqb-true}
 use lib.Dec.{eqb, leb}
 use lib.IntN.{ℤ}
 use Rattle.base.specs.Steps.{stateAfter, outputs}
-use Rattle.base.proofs.Booleans.{both-true}
+use Rattle.base.proofs.Booleans.{both-true, either-way, by-test}
 use Rattle.base.proofs.Steps.{after-add, outputs-add, after-keeps}
 use Rattle.rom.specs.Frames.{pitchBits}
 use Rattle.sound.specs.Sample.{sampled, valuesOf, soundStep}
@@ -40,29 +40,20 @@ counted-more : (n : ℕ) (t : Clock) → countedBy 1 (countedBy n t) ≡ counted
 counted-more n t = ap₂ (clockAt t) (omega arith) (omega arith)
 
 pub left-few : (t : Clock) → leftOfInterval t ≤ 25
-left-few t = go (intervalBegins t)
-  where
-    go : (b : Bool) → cond b 0 (25 - t .sample .0) ≤ 25
-    go true = omega arith
-    go false = omega arith
+left-few t = by-test (λ n. n ≤ 25) (intervalBegins t) (λ e. omega arith) (λ e. omega arith)
 
 -- a clock with samples left has made one, and sounds
 inside : (t : Clock) → 1 ≤ leftOfInterval t → (1 ≤ t .sample .0) × (leftOfInterval t ≡ 25 - t .sample .0)
-inside t l = go (intervalBegins t) refl
-  where
-    go : (b : Bool) → intervalBegins t ≡ b → (1 ≤ t .sample .0) × (leftOfInterval t ≡ 25 - t .sample .0)
-    go true e = absurd (omega (arith, rw e at l))
-    go false e = let n = eqb-false (t .sample .0) 0 e in (omega (arith, n), rw e)
+inside t l =
+    either-way (intervalBegins t) (λ e. absurd (omega (arith, rw e at l))) (λ e. let n = eqb-false (t .sample .0) 0 e in (omega (arith, n), rw e))
 
 sounds : (speaks : Bool) (t : Clock) → clockValid speaks t ≡ true → 1 ≤ t .sample .0 → t .sounding ≡ true
-sounds speaks t h l = go (t .sounding) refl
-  where
-    go : (b : Bool) → t .sounding ≡ b → t .sounding ≡ true
-    go true e = e
-    go false e =
-        let begins = both-true (leb (t .sample .0) lastSample && leb (t .interval .0) lastInterval) (frameBegins t && not speaks) (rw e at h) .1 in
-        let none = eqb-true (t .sample .0) 0 (both-true (intervalBegins t) (eqb (t .interval .0) 0) (both-true (frameBegins t) (not speaks) begins .0) .0) in
-        absurd (omega (arith, none))
+sounds speaks t h l =
+    either-way (t .sounding) (λ e. e)
+    (λ e.
+    let begins = both-true (leb (t .sample .0) lastSample && leb (t .interval .0) lastInterval) (frameBegins t && not speaks) (rw e at h) .1 in
+    let none = eqb-true (t .sample .0) 0 (both-true (intervalBegins t) (eqb (t .interval .0) 0) (both-true (frameBegins t) (not speaks) begins .0) .0) in
+    absurd (omega (arith, none)))
 
 -- ---- the steps
 

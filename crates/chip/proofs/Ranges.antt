@@ -1,7 +1,7 @@
 -- What a valid chip's fields are, from the tests.
 -- Assumes nothing.
 use mathlib.Core.Path.{_≡_, refl}
-use mathlib.Core.Bool.{Bool, true, false, _||_}
+use mathlib.Core.Bool.{true, _||_, or-true}
 use mathlib.Core.List.{[], _∷_}
 use Prim.Native.Nat.{_≤_, _<_}
 use Rattle.base.proofs.Booleans.{all-true}
@@ -41,8 +41,4 @@ in-ranges c r = rw (control-in-ranges (c .control) (r .control), r .sound, r .qu
 
 -- a sound at rest is valid with every valid control
 pub at-rest : (k : Control) → ControlRanges k → ChipRanges (record { control = k; sound = restSound })
-at-rest k h = record { control = h; sound = stays-valid .rest; quiet = rw (rest-exactly restSound .test refl) (either (k .clock .sounding)) }
-  where
-    either : (t : Bool) → (t || true) ≡ true
-    either true = refl
-    either false = refl
+at-rest k h = record { control = h; sound = stays-valid .rest; quiet = rw (rest-exactly restSound .test refl) (or-true (k .clock .sounding)) }

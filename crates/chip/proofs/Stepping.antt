@@ -17,7 +17,7 @@ use Rattle.voice.specs.Check.{voiceFault, version}
 use Rattle.sound.specs.declared.sample.Sampled.{Sampled}
 use Rattle.speech.specs.Advance.{advanced}
 use Rattle.play.specs.Play.{sounded}
-use Rattle.chip.specs.Types.{Control, Moved, Chip, Report, Stepped}
+use Rattle.chip.specs.Types.{Control, Moved, Chip, Stepped}
 use Rattle.chip.specs.Validity.{valid}
 use Rattle.chip.specs.Step.{stepTaken, stepFault, notStepped, stepOf}
 use Rattle.chip.specs.Run.{sampleStep, notRun, runOf, bufferOf}

@@ -5,10 +5,11 @@ use mathlib.Core.Path.{_≡_, refl, sym}
 use mathlib.Core.Bool.{Bool, true, false, not, cond}
 use mathlib.Core.List.{List, [], _∷_}
 use Prim.Native.Nat.{ℕ}
-use borrow.Author.Tests.{eqb-true}
+use borrow.Author.Tests.{eqb-true, not-false}
 use lib.Dec.{eqb}
 use Rattle.base.specs.Refusals.{WAIT, BEYOND, firstFault}
 use Rattle.base.specs.Steps.{stateAfter}
+use Rattle.base.proofs.Booleans.{by-test}
 use Rattle.rom.specs.Bits.{imageValid}
 use Rattle.control.specs.Commands.{commandOf, waits, beyond}
 use Rattle.control.specs.Status.{statusOf, acknowledgedPort}
@@ -26,11 +27,8 @@ module _ (image voice : List ℕ) (c : Chip) (i : imageValid image ≡ true) (v 
   -- the fault of a step is that of its voice file
   step-fault : stepFault image voice c ≡ faultOf voice
   unfolding stepFault
-  step-fault = rw (i, v) (go (eqb (faultOf voice) 0) refl)
-    where
-      go : (t : Bool) → eqb (faultOf voice) 0 ≡ t → cond (not t) (faultOf voice) 0 ≡ faultOf voice
-      go true e = sym (eqb-true (faultOf voice) 0 e)
-      go false e = refl
+  step-fault =
+      rw (i, v) (by-test (λ n. n ≡ faultOf voice) (not (eqb (faultOf voice) 0)) (λ e. refl) (λ e. sym (eqb-true (faultOf voice) 0 (not-false _ e))))
 
   pub step-by-voice : {t : Bool} → eqb (faultOf voice) 0 ≡ t → stepOf image voice c ≡ cond t (stepTaken image voice c) (notStepped c (faultOf voice))
   unfolding stepOf

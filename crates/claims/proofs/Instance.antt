@@ -2,7 +2,7 @@
 -- the answers that are due.
 -- Assumes nothing.
 use mathlib.Core.Path.{_≡_, refl, sym, ap, ap₂, _∙_, subst}
-use mathlib.Core.Bool.{Bool, true, false}
+use mathlib.Core.Bool.{true}
 use mathlib.Core.List.{List, [], _∷_, map}
 use Prim.Native.Nat.{ℕ, zero, suc, _+_, _*_, _≤_}
 use native.Mathlib.Omega.{arith}
@@ -11,6 +11,7 @@ use lib.Dec.{eqb}
 use lib.ListN.{length}
 use Rattle.base.specs.Refusals.{WAIT, BEYOND, firstFault}
 use Rattle.base.specs.Steps.{stateAfter}
+use Rattle.base.proofs.Booleans.{by-test}
 use Rattle.rom.specs.Bits.{imageValid}
 use Rattle.rom.specs.Frames.{pitchBits}
 use Rattle.rom.specs.Items.{There}
@@ -78,11 +79,11 @@ module _ (image : List ℕ) (i : imageValid image ≡ true) where
     taken-answer = ap (λ (t : Told). (0, t)) (moves image (c .control) (s .calm) .told)
 
     still : Still (stepOf image voice c .chip)
-    still = record { is-valid = step-keeps-valid image voice c (s .is-valid); calm = go (eqb (faultOf voice) 0) refl }
-      where
-        go : (t : Bool) → eqb (faultOf voice) 0 ≡ t → Calm (stepOf image voice c .chip .control)
-        go true e = subst (λ (r : Stepped). Calm (r .chip .control)) (sym (step-by-voice image voice c i (s .is-valid) e)) taken-calm
-        go false e = subst (λ (r : Stepped). Calm (r .chip .control)) (sym (step-by-voice image voice c i (s .is-valid) e)) (s .calm)
+    still = record {
+      is-valid = step-keeps-valid image voice c (s .is-valid);
+      calm = subst (λ (r : Stepped). Calm (r .chip .control)) (sym (step-by-voice image voice c i (s .is-valid) refl))
+          (by-test (λ (r : Stepped). Calm (r .chip .control)) (eqb (faultOf voice) 0) (λ e. taken-calm) (λ e. s .calm));
+    }
 
   -- the chip after steps, whatever else they give
   same-steps : (voice : List ℕ) (n : ℕ) (c : Chip) → stateAfter (sampleStep image voice) n c ≡ stateAfter (chipOn image .stepped voice) n c

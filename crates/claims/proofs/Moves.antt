@@ -7,7 +7,7 @@ use Prim.Native.Nat.{ℕ}
 use native.Mathlib.Omega.{arith}
 use borrow.Author.Tests.{eqb-true}
 use lib.Dec.{eqb}
-use Rattle.base.proofs.Booleans.{both-true, cond-true, cond-false}
+use Rattle.base.proofs.Booleans.{both-true, either-way, cond-true, cond-false}
 use Rattle.rom.specs.Frames.{pitchBits, isStop}
 use Rattle.rom.specs.Reader.{frameAt}
 use Rattle.rom.specs.Prefix.{withPrefix}
@@ -67,21 +67,20 @@ module _ (image : List ℕ) (k : Control) (h : Calm k) where
 
   by-answer : k .mode ≡ Rom → frameBegins (k .clock) ≡ true → (x : FrameAnswer)
       → Same (fromRom image k x) (byAnswer chipForm image (speechOf k) (withPrefix 0 x))
-  by-answer m b (Whole f next) = go (isStop f) refl
+  by-answer m b (Whole f next) =
+      either-way (isStop f)
+      (λ e. record { calm = record { mode = rw e; level = rw e; pending = h .pending }; speech = rw e (begins false); told = refl })
+      (λ e. record {
+        calm = record { mode = rw (e, m); level = rw e (h .level); pending = h .pending };
+        speech = rw (e, m) (begins true);
+        told = refl;
+      })
     where
       after : Bool → Clock → Speech
       after t c = record { talking = t; position = next; clock = counted c }
 
       begins : (t : Bool) → after t (k .clock) ≡ after t (begun 0 (k .clock))
       begins t = ap (after t) (begun-same b)
-
-      go : (t : Bool) → isStop f ≡ t → Same (fromRom image k (Whole f next)) (byAnswer chipForm image (speechOf k) (withPrefix 0 (Whole f next)))
-      go true e = record { calm = record { mode = rw e; level = rw e; pending = h .pending }; speech = rw e (begins false); told = refl }
-      go false e = record {
-        calm = record { mode = rw (e, m); level = rw e (h .level); pending = h .pending };
-        speech = rw (e, m) (begins true);
-        told = refl;
-      }
   by-answer m b Cut = record { calm = record { mode = refl; level = h .level; pending = h .pending }; speech = refl; told = refl }
 
   -- at a boundary, by the mode
@@ -109,10 +108,8 @@ module _ (image : List ℕ) (k : Control) (h : Calm k) where
 
   pub moves : Moves
   unfolding advanced
-  moves = go (k .clock .sounding) refl (frameBegins (k .clock)) refl
-    where
-      go : (s : Bool) → k .clock .sounding ≡ s → (b : Bool) → frameBegins (k .clock) ≡ b → Moves
-      go false o b f = counts (cond-false _ _ _ o) (spoken-silent chipForm image (speechOf k) o) refl refl refl refl refl
-      go true o false f =
-          counts (cond-true _ _ _ o ∙ cond-false _ _ _ f) (spoken-within chipForm image (speechOf k) o f) refl refl refl refl refl
-      go true o true f = boundary o f (k .mode) refl
+  moves =
+      either-way (k .clock .sounding)
+      (λ o. either-way (frameBegins (k .clock)) (λ f. boundary o f (k .mode) refl)
+      (λ f. counts (cond-true _ _ _ o ∙ cond-false _ _ _ f) (spoken-within chipForm image (speechOf k) o f) refl refl refl refl refl))
+      (λ o. counts (cond-false _ _ _ o) (spoken-silent chipForm image (speechOf k) o) refl refl refl refl refl)
