@@ -1,31 +1,45 @@
--- A valid control stays valid under a taken byte, and a sound that is not put at rest sounds on or stays silent.
+-- What a taken byte finds and does: a valid control stays valid under it, and a sound that is not put at rest sounds on or stays
+-- silent.
 -- Assumes nothing.
-use mathlib.Core.Path.{_≡_, refl, subst}
+use mathlib.Core.Path.{_≡_, sym, ap, _∙_, refl, subst}
 use mathlib.Core.Bool.{true, false, true≢false}
 use mathlib.Core.List.{List, [], _∷_}
-use Prim.Native.Nat.{ℕ, zero, suc, _+_, _*_, _/_, _%_, _≤_, _<_}
-use native.Mathlib.Numerals.{add-one}
+use Prim.Native.Nat.{ℕ, _≤_, _<_, zero, suc, _+_, _*_, _/_, _%_}
 use native.Mathlib.Omega.{arith}
-use borrow.Author.Tests.{leb-true, eqb-true, eqb-false, not-false}
+use borrow.Author.Tests.{eqb-false, leb-true, eqb-true, not-false}
+use native.Mathlib.Numerals.{add-one}
 use lib.Dec.{eqb}
 use lib.ListN.{length, drop, set, length-set}
+use Rattle.fifo.specs.Buffer.{fifoSize, allZero, appended}
+use Rattle.control.specs.Validity.{mostLevel, controlValid, speaks, leastLevel, mostUsed, fifoValid, portValid}
+use Rattle.control.specs.Commands.{waits, commandOf, beyondAt, beyond}
+use Rattle.control.proofs.Ranges.{control-ranges, mode-ranges, ControlRanges, control-in-ranges}
 use Rattle.base.proofs.Booleans.{both-true, by-test}
 use Rattle.rom.specs.Bits.{imageLimit}
 use Rattle.rom.proofs.Checks.{valid-length}
-use Rattle.bus.specs.Types.{Mode, Idle, Rom, Waiting, External, Fifo, Control, Command, Nothing, ReadByte, ReadAndBranch, LoadAddress, Speak, SpeakExternal, Reset, Accepted}
 use Rattle.address.specs.Addresses.{positionLimit, addressLimit, nibbles, withNibble}
 use Rattle.address.proofs.Ranges.{address-ranges, address-in-range}
 use Rattle.clock.specs.Counters.{clockValid}
-use Rattle.fifo.specs.Buffer.{fifoSize, allZero, appended}
 use Rattle.fifo.proofs.Ranges.{fifo-in-range}
 use Rattle.control.specs.State.{startLevel, powerUpControl}
-use Rattle.control.specs.Validity.{speaks, leastLevel, mostLevel, mostUsed, fifoValid, portValid}
-use Rattle.control.specs.Commands.{commandOf, beyondAt, beyond}
-use Rattle.control.proofs.Ranges.{ControlRanges, control-ranges, control-in-ranges, mode-ranges}
+use Rattle.bus.specs.Types.{Mode, Idle, Rom, Waiting, External, Control, Command, Accepted, Fifo, Nothing, ReadByte, ReadAndBranch, LoadAddress, Speak, SpeakExternal, Reset}
+use Rattle.bus.specs.Accept.{acceptedIn, accepted, buffered}
 use Rattle.bus.specs.Commands.{obeyed}
-use Rattle.bus.specs.Accept.{buffered, acceptedIn, accepted}
 use Rattle.bus.specs.Laws.{AcceptKeepsValid, SoundingKept}
-use Rattle.bus.proofs.Accepting.{room}
+
+room-in : (m : Mode) (level : ℕ) (c : Command) → level ≤ mostLevel m → waits m level c ≡ false → level < fifoSize
+room-in Idle level c h w = omega arith
+room-in Rom level c h w = omega arith
+room-in Waiting level c h w = omega arith
+room-in External level c h w = let d = eqb-false level fifoSize w in omega (arith, d)
+
+-- where a byte does not wait, the FIFO has room
+pub room : (k : Control) (c : Command) → controlValid k ≡ true → waits (k .mode) (k .fifo .level) c ≡ false → k .fifo .level < fifoSize
+room k c v w = room-in (k .mode) (k .fifo .level) c (mode-ranges (k .mode) (k .fifo) (control-ranges k v .fifo) .at-most) w
+
+pub in-mode : (image : List ℕ) (k : Control) (b : ℕ) {m : Mode} {r : Accepted} → k .mode ≡ m → r ≡ acceptedIn m image k b → r ≡ accepted image k b
+unfolding accepted
+in-mode image k b e r = r ∙ ap (λ (m : Mode). acceptedIn m image k b) (sym e)
 
 power-up-ranges : ControlRanges powerUpControl
 power-up-ranges = record { address = refl; fifo = refl; port = refl; clock = refl }

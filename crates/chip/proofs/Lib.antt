@@ -1,8 +1,5 @@
 pub mod Ranges
-pub mod Writing
-pub mod Reading
-pub mod KeptValid
+pub mod BusCalls
 pub mod Stepping
-pub mod StepsValid
+pub mod KeptValid
 pub mod Playing
-pub mod Silent

@@ -1,31 +1,48 @@
--- Steps within an interval in which a sample has been made: the control counts, and the sound plays on.
+-- Many steps at once: those of a chip that does not sound leave it as it is, and within an interval in which a sample has been
+-- made the control counts, and the sound plays on.
 -- Assumes nothing.
-use mathlib.Core.Path.{_≡_, refl, sym, ap, ap₂, _∙_, subst}
-use mathlib.Core.Bool.{Bool, true, false, not, _&&_}
+use mathlib.Core.Path.{_≡_, refl, sym, ap, _∙_, ap₂, subst}
+use mathlib.Core.Bool.{false, Bool, true, not, _&&_}
 use mathlib.Core.List.{List, [], _∷_, _++_}
 use Prim.Native.Nat.{ℕ, zero, suc, _+_, _-_, _≤_}
+use lib.IntN.{pos, ℤ}
+use lib.ListN.{replicate}
 use native.Mathlib.Numerals.{add-one}
 use native.Mathlib.Omega.{arith}
 use borrow.Author.Tests.{ne-eqb, eqb-false, eqb-true}
 use lib.Dec.{eqb, leb}
-use lib.IntN.{ℤ}
 use Rattle.base.specs.Steps.{stateAfter, outputs}
-use Rattle.base.proofs.Booleans.{both-true, either-way, by-test}
-use Rattle.base.proofs.Steps.{after-add, outputs-add, after-keeps}
+use Rattle.base.proofs.Steps.{same-state, same-outputs, after-add, outputs-add, after-keeps}
 use Rattle.rom.specs.Frames.{pitchBits}
+use Rattle.speech.proofs.Moving.{advanced-silent, advanced-within}
+use Rattle.play.specs.Play.{sounded}
+use Rattle.base.proofs.Booleans.{both-true, either-way, by-test}
 use Rattle.sound.specs.Sample.{sampled, valuesOf, soundStep}
 use Rattle.sound.specs.declared.state.Sound.{Sound}
 use Rattle.clock.specs.Counters.{lastSample, lastInterval, countedBy, intervalBegins, frameBegins, leftOfInterval, clockValid}
 use Rattle.control.specs.State.{withClock}
 use Rattle.control.specs.Validity.{speaks}
-use Rattle.speech.proofs.Moving.{advanced-within}
-use Rattle.play.specs.Play.{sounded}
-use Rattle.chip.specs.Types.{Clock, Continue, Moved, Chip, Stepped}
+use Rattle.chip.specs.Types.{Moved, Chip, Stepped, Clock, Continue}
 use Rattle.chip.specs.Step.{stepTaken, stepFault}
 use Rattle.chip.specs.Run.{sampleStep, playedOn}
+use Rattle.chip.proofs.Stepping.{step-taken, passed}
 use Rattle.chip.proofs.Ranges.{chip-ranges, valid-clock}
-use Rattle.chip.proofs.Stepping.{passed, step-taken}
-use Rattle.chip.proofs.StepsValid.{goes-on}
+use Rattle.chip.proofs.KeptValid.{goes-on}
+
+-- ---- a chip that does not sound
+
+module _ (image voice : List ℕ) (c : Chip) (h : stepFault image voice c ≡ 0) (off : c .control .clock .sounding ≡ false) where
+  silent-step : sampleStep image voice c ≡ (c, pos 0)
+  unfolding stepTaken
+  silent-step =
+      ap (λ (r : Stepped). (r .chip, r .sample)) (sym (step-taken image voice c refl h refl))
+      ∙ ap (λ (m : Moved). (record { control = m .control; sound = sounded pitchBits voice (m .action) (c .sound) .sound }, sounded pitchBits voice (m .action) (c .sound) .value)) (sym (advanced-silent pitchBits image (c .control) off))
+
+  pub silent-state : (n : ℕ) → c ≡ stateAfter (sampleStep image voice) n c
+  silent-state n = sym (same-state (sampleStep image voice) n silent-step)
+
+  pub silent-outputs : (n : ℕ) → replicate n (pos 0) ≡ outputs (sampleStep image voice) n c
+  silent-outputs n = sym (same-outputs (sampleStep image voice) n silent-step)
 
 -- ---- the counters
 

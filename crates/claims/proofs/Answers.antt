@@ -1,27 +1,43 @@
--- What a valid chip returns on a valid image: a step and a run by their voice file, a written byte by the refusal table, a
--- read with the status.
+-- What a valid chip returns on a valid image: an idle chip's obeyed command, a step and a run by their voice file, a written
+-- byte by the refusal table, a read with the status.
 -- Assumes nothing.
-use mathlib.Core.Path.{_≡_, refl, sym}
-use mathlib.Core.Bool.{Bool, true, false, not, cond}
+use mathlib.Core.Path.{_≡_, refl, sym, ap}
+use mathlib.Core.Bool.{true, false, Bool, not, cond}
 use mathlib.Core.List.{List, [], _∷_}
 use Prim.Native.Nat.{ℕ}
 use borrow.Author.Tests.{eqb-true, not-false}
 use lib.Dec.{eqb}
+use Rattle.rom.specs.Bits.{imageValid}
+use Rattle.control.specs.Commands.{commandOf, beyondAt, waits, beyond}
+use Rattle.control.specs.declared.state.Mode.the-variants.{Idle}
+use Rattle.control.specs.declared.commands.Command.{Command}
+use Rattle.bus.specs.Commands.{obeyed}
+use Rattle.bus.proofs.Kept.{in-mode}
+use Rattle.chip.specs.Validity.{valid}
+use Rattle.chip.specs.Write.{commandFault, writeFault, afterByte, writeOf}
+use Rattle.chip.specs.declared.state.Chip.{Chip}
+use Rattle.chip.proofs.BusCalls.{write-taken}
 use Rattle.base.specs.Refusals.{WAIT, BEYOND, firstFault}
 use Rattle.base.specs.Steps.{stateAfter}
 use Rattle.base.proofs.Booleans.{by-test}
-use Rattle.rom.specs.Bits.{imageValid}
-use Rattle.control.specs.Commands.{commandOf, waits, beyond}
 use Rattle.control.specs.Status.{statusOf, acknowledgedPort}
 use Rattle.control.specs.declared.state.Port.{Port}
 use Rattle.control.specs.declared.state.Control.{Control}
-use Rattle.chip.specs.Validity.{valid}
-use Rattle.chip.specs.Write.{commandFault, writeFault}
 use Rattle.chip.specs.Read.{acknowledged, acknowledgeOf, readOf}
 use Rattle.chip.specs.Step.{stepTaken, stepFault, notStepped, stepOf}
 use Rattle.chip.specs.Run.{sampleStep, notRun, runOf}
-use Rattle.chip.specs.declared.state.Chip.{Chip}
 use Rattle.claims.specs.Device.{faultOf, modeOf, talkStatus}
+
+-- a command that is not beyond the image is taken and obeyed
+pub obeys : (image : List ℕ) (c : Chip) (b : ℕ) (k : Command) → imageValid image ≡ true → valid c ≡ true → c .control .mode ≡ Idle
+    → commandOf b ≡ k → beyondAt image (c .control .address .position) k ≡ false
+    → writeOf image c b ≡ record { chip = afterByte c (obeyed image (c .control) b k); refusal = 0 }
+unfolding commandFault
+obeys image c b k i v m e n =
+    sym (write-taken image c b (sym fault) refl (in-mode image (c .control) b m (sym (ap (obeyed image (c .control) b) e))) refl)
+  where
+    fault : writeFault image c b ≡ 0
+    fault = rw (i, v, m, e, n)
 
 module _ (image voice : List ℕ) (c : Chip) (i : imageValid image ≡ true) (v : valid c ≡ true) where
   -- the fault of a step is that of its voice file

@@ -11,7 +11,7 @@ use Rattle.rom.specs.declared.phrases.Walked.{Walked}
 use Rattle.rom.proofs.Theorems.{walk-accepts, walk-counts, phrase-unique, frames-read}
 use Rattle.schedule.specs.Form.{plain}
 use Rattle.schedule.proofs.Plain.{plain-bits, plain-ended}
-use Rattle.schedule.proofs.Numbers.{just-after}
+use Rattle.schedule.proofs.Due.{just-after}
 use Rattle.claims.specs.Device.{chipForm}
 use Rattle.claims.specs.Demand3.{totalBits, endStep, positionDue, Demand3}
 use Rattle.claims.proofs.Opening.{opening}

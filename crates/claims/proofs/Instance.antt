@@ -37,14 +37,12 @@ use Rattle.chip.specs.declared.write.Written.{Written}
 use Rattle.chip.specs.declared.step.Stepped.{Stepped}
 use Rattle.control.proofs.Ranges.{mode-ranges}
 use Rattle.chip.proofs.Ranges.{chip-ranges}
-use Rattle.chip.proofs.Writing.{write-refused}
-use Rattle.chip.proofs.KeptValid.{write-keeps-valid, read-keeps-valid}
-use Rattle.chip.proofs.StepsValid.{step-keeps-valid}
+use Rattle.chip.proofs.BusCalls.{write-refused}
+use Rattle.chip.proofs.KeptValid.{write-keeps-valid, read-keeps-valid, step-keeps-valid}
 use Rattle.claims.specs.Device.{chipForm, stepGives, runGives, writeGives, chipOn, faultOf, refusedAs, chipTable}
 use Rattle.claims.specs.Demand3.{AnswersDue, Core}
-use Rattle.claims.proofs.Commanded.{obeys}
+use Rattle.claims.proofs.Answers.{obeys, step-by-voice, run-by-voice, write-fault, read-taken, read-status, read-chip, still-none, status-is}
 use Rattle.claims.proofs.Moves.{speechOf, Calm, moves}
-use Rattle.claims.proofs.Answers.{step-by-voice, run-by-voice, write-fault, read-taken, read-status, read-chip, still-none, status-is}
 
 -- a valid chip that speaks from ROM or is idle
 pub record Still (c : Chip) : Type 0 where

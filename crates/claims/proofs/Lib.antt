@@ -1,5 +1,4 @@
 pub mod Computed
-pub mod Commanded
 pub mod Opening
 pub mod Moves
 pub mod Answers

@@ -18,7 +18,7 @@ use Rattle.clock.specs.declared.Clock.{Clock}
 use Rattle.schedule.specs.Types.{tells, Speech, Spoken}
 use Rattle.schedule.specs.Speech.{begun, byAnswer, spoken}
 use Rattle.schedule.proofs.Plain.{plain-read}
-use Rattle.schedule.proofs.Speaking.{spoken-silent, spoken-within, spoken-rests, spoken-reads}
+use Rattle.schedule.proofs.Keeping.{spoken-silent, spoken-within, spoken-rests, spoken-reads}
 use Rattle.control.specs.Validity.{speaks}
 use Rattle.control.specs.declared.state.Mode.{Mode}
 use Rattle.control.specs.declared.state.Mode.the-variants.{Idle, Rom, Waiting, External}

@@ -23,7 +23,7 @@ use Rattle.chip.specs.declared.state.Chip.{Chip}
 use Rattle.chip.specs.declared.write.Written.{Written}
 use Rattle.claims.specs.Writes.{afterBytes, refusalsOf}
 use Rattle.claims.specs.Demand3.{loadBytes, Ready, Opening}
-use Rattle.claims.proofs.Commanded.{obeys}
+use Rattle.claims.proofs.Answers.{obeys}
 
 -- power-up, at another place
 abbrev placed : ℕ → ℕ → Chip

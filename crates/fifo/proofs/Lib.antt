@@ -1,4 +1,3 @@
 pub mod Ranges
 pub mod Held
-pub mod HeldFrames
 pub mod Shifting

@@ -11,5 +11,4 @@ pub mod FrameCode
 pub mod WholeFrame
 pub mod Walking
 pub mod Theorems
-pub mod WalkAnswers
 pub mod Prefixed

@@ -1,19 +1,21 @@
--- What is due, one item at a time: before the first of the items, from its step on, and where there is none.
+-- What is due, one item at a time: before the first of the items, from its step on, and where there is none; the steps of the
+-- schedule, numbered as 01 says; and its end.
 -- Assumes nothing.
-use mathlib.Core.Path.{_≡_, refl}
+use mathlib.Core.Path.{_≡_, refl, ap, _∙_}
 use mathlib.Core.Bool.{true, false, and-false}
-use mathlib.Core.List.{List, [], _∷_}
+use mathlib.Core.List.{List, [], _∷_, _++_, append-nil}
 use Prim.Native.Nat.{ℕ, _+_, _≤_, _<_}
 use native.Mathlib.Nat.{add-assoc, add-zero}
 use native.Mathlib.Omega.{arith}
 use borrow.Author.Tests.{eq-eqb, ne-eqb, le-leb, lt-leb, lt-ltb, le-ltb}
 use lib.ListN.{length, length-append}
-use Rattle.base.proofs.Booleans.{by-test}
+use Rattle.base.proofs.Booleans.{by-test, neither}
 use Rattle.rom.specs.Frames.{isStop}
-use Rattle.rom.specs.Items.{bitsAll}
-use Rattle.schedule.specs.Form.{Form, Item, itemCode, lasting}
+use Rattle.rom.specs.Items.{bitsAll, hasStop, Ended, last, more}
+use Rattle.rom.proofs.ItemLaws.{has-stop}
+use Rattle.schedule.specs.Form.{Form, Item, itemCode, lasting, KeepsSome}
 use Rattle.schedule.specs.Types.{NoReport, RanOut, tells}
-use Rattle.schedule.specs.Schedule.{dueReport, dueFrom, endFrom, toldFrom, talksFrom, positionFrom}
+use Rattle.schedule.specs.Schedule.{dueReport, dueFrom, endFrom, toldFrom, talksFrom, positionFrom, totalSamples, Numbered, JustAfter}
 
 -- the bits of an item
 abbrev pub width : Form → Item → ℕ
@@ -117,3 +119,45 @@ module _ (F : Form) where
       pub position-out : (p e : ℕ) → positionFrom F at p e [] n ≡ e
       unfolding endFrom
       position-out p e = rw (le-leb at n h)
+
+-- ---- the steps, numbered
+
+module _ (F : Form) where
+  -- past items that are no stops, the others are due after their samples
+  told-past : KeepsSome F → (at : ℕ) (js ks : List Item) → hasStop (itemCode F) js ≡ false
+      → toldFrom F at (js ++ ks) (at + totalSamples F js) ≡ toldFrom F (at + totalSamples F js) ks (at + totalSamples F js)
+  told-past keeps at [] ks e = rw add-zero
+  told-past keeps at (j ∷ js) ks e =
+      let s = neither (isStop (j .1)) (hasStop (itemCode F) js) e in
+      let later : at < at + (lasting F j + totalSamples F js) = omega (arith, keeps (j .0)) in
+      told-more F at (at + (lasting F j + totalSamples F js)) j (js ++ ks) (s .0) later
+      ∙ rw (← add-assoc at (lasting F j) (totalSamples F js)) (told-past keeps (at + lasting F j) js ks (s .1))
+
+  end-past : (at : ℕ) (js ks : List Item) → hasStop (itemCode F) js ≡ false → endFrom F at (js ++ ks) ≡ endFrom F (at + totalSamples F js) ks
+  end-past at [] ks e = rw add-zero
+  end-past at (j ∷ js) ks e =
+      let s = neither (isStop (j .1)) (hasStop (itemCode F) js) e in
+      end-more F at j (js ++ ks) (s .0)
+      ∙ rw (← add-assoc at (lasting F j) (totalSamples F js)) (end-past (at + lasting F j) js ks (s .1))
+
+  -- from the stop's step on all items of a phrase are due
+  all-due : {is : List Item} → Ended (itemCode F) is → (at n : ℕ) → endFrom F at is ≤ n → dueFrom F at is n ≡ is
+  all-due (last {f = i} k) at n h = due-stop F at n i k (omega (arith, end-stop F at i [] k))
+  all-due (more {f = i} {fs = is} k d) at n h =
+      let e = end-more F at i is k in
+      due-first F at n i is (omega (arith, e, end-after F at (i ∷ is)))
+      ∙ ap (λ (js : List Item). i ∷ js) (all-due d (at + lasting F i) n (omega (arith, e)))
+
+pub numbered : Numbered
+unfolding endFrom
+numbered F keeps js e =
+    let n = 1 + totalSamples F js in
+    record {
+      frame = λ i ks. told-past F keeps 1 js (i ∷ ks) e ∙ told-due F n n i ks refl;
+      stop = λ i ks k. end-past F 1 js (i ∷ ks) e ∙ end-stop F n i ks k;
+      runs-out = rw append-nil at (told-past F keeps 1 js [] e) ∙ told-out F n n refl;
+      end = rw append-nil at (end-past F 1 js [] e);
+    }
+
+pub just-after : JustAfter
+just-after F start end is d n h = rw (has-stop d, all-due F d 1 n h)

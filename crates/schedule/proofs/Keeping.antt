@@ -1,26 +1,48 @@
--- Speech from ROM keeps the schedule.
+-- A step of speech from ROM, by cases; and speech from ROM keeps the schedule.
 -- Assumes nothing.
-use mathlib.Core.Path.{_≡_, refl, sym, ap, _∙_, subst}
+use mathlib.Core.Path.{_≡_, _∙_, refl, sym, ap, subst}
 use mathlib.Core.Bool.{true, false, true≢false}
 use mathlib.Core.List.{List, [], _∷_}
 use Prim.Native.Nat.{ℕ, zero, suc, _+_, _-_, _*_, _≤_, max}
 use native.Mathlib.Nat.{add-zero, zero-add}
 use native.Mathlib.Omega.{arith}
 use lib.ListN.{length}
+use Rattle.base.proofs.Booleans.{cond-true, cond-false}
+use Rattle.clock.specs.Counters.{frameBegins, counted}
 use Rattle.base.specs.Steps.{stateAfter}
 use Rattle.base.specs.Units.{samplesPerInterval}
 use Rattle.rom.specs.Frames.{isStop}
 use Rattle.rom.specs.Items.{ItemAnswer, whole, cut}
-use Rattle.clock.specs.Counters.{counted}
-use Rattle.schedule.specs.Form.{Form, KeepsSome, Item, readItem, lasting}
-use Rattle.schedule.specs.Types.{Clock, Speech, Spoken}
+use Rattle.schedule.specs.Form.{Form, readItem, KeepsSome, Item, lasting}
+use Rattle.schedule.specs.Types.{Speech, Clock, Spoken}
+use Rattle.schedule.specs.Speech.{silent, goesOn, rests as rested, byAnswer, spoken, talkingFrom, begun, speechStep, KeepsSchedule}
 use Rattle.schedule.specs.Schedule.{toldFrom}
-use Rattle.schedule.specs.Speech.{talkingFrom, begun, byAnswer, spoken, speechStep, KeepsSchedule}
 use Rattle.schedule.proofs.Due.{width, told-ahead, told-due, told-more, told-stop, told-out, told-after-out}
 use Rattle.schedule.proofs.Chain.{Chain, stop, more, end, chain-there}
 use Rattle.schedule.proofs.Counting.{wholeFrame, Left, left-sounds, left-begins, left-within, left-on, left-begun, left-started}
-use Rattle.schedule.proofs.Speaking.{spoken-silent, spoken-within, spoken-rests, spoken-reads}
 use Rattle.schedule.proofs.Progress.{Ending, sounds, rests, State, ahead, past, ended, out, state-talks, state-position}
+
+-- ---- a step, by cases
+
+module _ (F : Form) (image : List ℕ) (s : Speech) where
+  pub spoken-silent : s .clock .sounding ≡ false → spoken F image s ≡ silent s
+  unfolding spoken
+  spoken-silent o = cond-false _ _ _ o
+
+  pub spoken-within : s .clock .sounding ≡ true → frameBegins (s .clock) ≡ false → spoken F image s ≡ goesOn s
+  unfolding spoken
+  spoken-within o b = cond-true _ _ _ o ∙ cond-false _ _ _ b
+
+  pub spoken-rests : s .clock .sounding ≡ true → frameBegins (s .clock) ≡ true → s .talking ≡ false → spoken F image s ≡ rested s
+  unfolding spoken
+  spoken-rests o b k = cond-true _ _ _ o ∙ cond-true _ _ _ b ∙ cond-false _ _ _ k
+
+  pub spoken-reads : s .clock .sounding ≡ true → frameBegins (s .clock) ≡ true → s .talking ≡ true
+      → spoken F image s ≡ byAnswer F image s (readItem F image (s .position))
+  unfolding spoken
+  spoken-reads o b k = cond-true _ _ _ o ∙ cond-true _ _ _ b ∙ cond-true _ _ _ k
+
+-- ---- the schedule
 
 -- what each step moves from n to n + 1, m steps move from n to n + m
 pub after-steps : {S A : Type 0} (step : S → S × A) (P : ℕ → S → Type 0) → ((n : ℕ) (s : S) → P n s → P (n + 1) (step s .0))

@@ -1,9 +1,7 @@
 pub mod Due
-pub mod Numbers
 pub mod Chain
 pub mod Plain
 pub mod Counting
-pub mod Speaking
 pub mod Progress
 pub mod Keeping
 pub mod Answering

@@ -1,3 +1,2 @@
-pub mod Moving
 pub mod Kept
-pub mod FifoFrames
+pub mod Moving

@@ -1,6 +1,6 @@
--- What the control does at a frame boundary, by what the reader returns.
+-- What the control does at a frame boundary, by what the reader returns, and the frame that a boundary in external speech takes.
 -- Assumes nothing.
-use mathlib.Core.Path.{_≡_, sym, ap, _∙_, subst}
+use mathlib.Core.Path.{_≡_, sym, ap, _∙_, subst, refl}
 use mathlib.Core.Bool.{true, false, _||_}
 use mathlib.Core.List.{List}
 use Prim.Native.Nat.{ℕ, _*_, _≤_, max}
@@ -17,9 +17,11 @@ use Rattle.fifo.specs.Buffer.{fifoSize, emptied, usedUp}
 use Rattle.reports.specs.Reports.{frameReport}
 use Rattle.control.specs.State.{withClock}
 use Rattle.control.specs.Validity.{fifoValid, controlValid}
-use Rattle.control.proofs.Ranges.{control-ranges, mode-ranges}
+use Rattle.control.proofs.Ranges.{control-ranges, mode-ranges, valid-fits}
+use Rattle.fifo.proofs.Held.{held-frame, held-cut}
 use Rattle.speech.specs.Types.{Mode, Idle, External, Fifo, Clock, Control, Report, NoReport, Action, Silent, Begin, Moved}
 use Rattle.speech.specs.Advance.{within, changed, frameBegun, ranOut, fromRom, fromFifo, boundaryIn, advanced}
+use Rattle.speech.specs.Laws.{FifoFrame, FifoEnds}
 
 -- a frame that begins, from what its calls give
 module _ (k : Control) (f : Frame) (p : ℕ) (held : Fifo) {d : Control} {t : Clock} {r : Report} (x : t ≡ counted (k .clock)) (y : r ≡ frameReport f) where
@@ -80,3 +82,9 @@ pub external-fifo : (k : Control) → k .mode ≡ External → controlValid k �
 external-fifo k m v =
     let r = mode-ranges External (k .fifo) (subst (λ (m : Mode). fifoValid m (k .fifo) ≡ true) m (control-ranges k v .fifo)) in
     (r .at-most, r .used-bits)
+
+pub fifo-frame : FifoFrame
+fifo-frame P image k g v p b = ap (fromFifo k) (held-frame P (k .fifo) g _ (valid-fits External (k .fifo) v) .1 (p, b, refl))
+
+pub fifo-ends : FifoEnds
+fifo-ends P image k v none = ap (fromFifo k) (held-cut P (k .fifo) (valid-fits External (k .fifo) v) .1 none)

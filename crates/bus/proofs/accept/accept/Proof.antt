@@ -6,7 +6,7 @@ use borrow.Author.Tests.{eq-eqb, ne-eqb}
 use Rattle.base.proofs.Booleans.{cond-true, cond-false}
 use Rattle.address.proofs.Ranges.{address-ranges}
 use Rattle.control.proofs.Ranges.{control-ranges}
-use Rattle.bus.proofs.Accepting.{room, in-mode}
+use Rattle.bus.proofs.Kept.{room, in-mode}
 use Rattle.bus.proofs.accept.accept.Statement.{statement}
 use Rattle.bus.proofs.accept.accept.Tie as tie
 

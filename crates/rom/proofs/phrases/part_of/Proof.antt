@@ -4,7 +4,7 @@ use Prim.Native.Nat.{_+_, _*_, _≤_}
 use native.Mathlib.Omega.{arith}
 use lib.ListN.{length}
 use Rattle.rom.specs.Bits.{imageLimit}
-use Rattle.rom.proofs.WalkAnswers.{phrase-room, phrase-taken, phrase-refused}
+use Rattle.rom.proofs.Theorems.{phrase-room, phrase-taken, phrase-refused}
 use Rattle.rom.proofs.phrases.part_of.Statement.{statement}
 use Rattle.rom.proofs.phrases.part_of.Tie as tie
 

@@ -5,7 +5,7 @@ use native.Mathlib.Omega.{arith}
 use lib.ListN.{length}
 use Rattle.rom.specs.Bits.{imageLimit}
 use Rattle.rom.proofs.Checks.{in-image}
-use Rattle.rom.proofs.WalkAnswers.{walk-refused, walk-answered}
+use Rattle.rom.proofs.Theorems.{walk-refused, walk-answered}
 use Rattle.rom.proofs.phrases.walk.Statement.{statement}
 use Rattle.rom.proofs.phrases.walk.Tie as tie
 

@@ -1,6 +1,6 @@
 -- `chip::state::Chip::acknowledge` meets its contract. Assumes nothing.
 use borrow.Author.Needs.{needs}
-use Rattle.chip.proofs.Reading.{acknowledge-refused, acknowledge-taken}
+use Rattle.chip.proofs.BusCalls.{acknowledge-refused, acknowledge-taken}
 use Rattle.chip.proofs.state.Chip.acknowledge.Statement.{statement}
 use Rattle.chip.proofs.state.Chip.acknowledge.Tie as tie
 

@@ -14,7 +14,7 @@ use Rattle.chip.specs.Step.{stepFault}
 use Rattle.chip.specs.Run.{sampleStep}
 use Rattle.chip.proofs.Ranges.{valid-clock}
 use Rattle.chip.proofs.Stepping.{passed, sample-step-is}
-use Rattle.chip.proofs.StepsValid.{goes-on}
+use Rattle.chip.proofs.KeptValid.{goes-on}
 use Rattle.chip.proofs.Playing.{left-few, played}
 use Rattle.chip.proofs.state.Chip.fill.Statement.{statement}
 use Rattle.chip.proofs.state.Chip.fill.Tie as tie

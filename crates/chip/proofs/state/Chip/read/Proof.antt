@@ -1,6 +1,6 @@
 -- `chip::state::Chip::read` meets its contract. Assumes nothing.
 use borrow.Author.Needs.{needs}
-use Rattle.chip.proofs.Reading.{read-refused, read-taken}
+use Rattle.chip.proofs.BusCalls.{read-refused, read-taken}
 use Rattle.chip.proofs.state.Chip.read.Statement.{statement}
 use Rattle.chip.proofs.state.Chip.read.Tie as tie
 

@@ -3,7 +3,7 @@ use borrow.Author.Needs.{needs}
 use mathlib.Core.Path.{_∙_}
 use lib.ListN.{length}
 use denote.Ref.{now}
-use Rattle.chip.proofs.Silent.{silent-state, silent-outputs}
+use Rattle.chip.proofs.Playing.{silent-state, silent-outputs}
 use Rattle.chip.proofs.state.Chip.sound_or_silence.Statement.{statement}
 use Rattle.chip.proofs.state.Chip.sound_or_silence.Tie as tie
 

@@ -7,7 +7,7 @@ use Rattle.voice.specs.Check.{version}
 use Rattle.control.proofs.Ranges.{control-in-ranges}
 use Rattle.chip.proofs.Ranges.{chip-ranges}
 use Rattle.chip.proofs.Stepping.{Passed, passed, step-taken-is}
-use Rattle.chip.proofs.StepsValid.{kept}
+use Rattle.chip.proofs.KeptValid.{kept}
 use Rattle.chip.proofs.state.Chip.take_step.Statement.{statement}
 use Rattle.chip.proofs.state.Chip.take_step.Tie as tie
 

@@ -5,7 +5,7 @@ use mathlib.Core.Path.{_≡_, sym, _∙_}
 use Rattle.control.proofs.Ranges.{control-in-ranges}
 use Rattle.chip.specs.Write.{writeFault}
 use Rattle.chip.proofs.Ranges.{chip-ranges}
-use Rattle.chip.proofs.Writing.{found, write-refused, write-taken}
+use Rattle.chip.proofs.BusCalls.{found, write-refused, write-taken}
 use Rattle.chip.proofs.state.Chip.write.Statement.{statement}
 use Rattle.chip.proofs.state.Chip.write.Tie as tie
 

@@ -1,18 +1,22 @@
--- What a written byte returns, by its fault, and what one without a fault finds.
+-- What a written byte, an acknowledge and a read return, by their fault, and what a byte without a fault finds.
 -- Assumes nothing.
 use mathlib.Core.Path.{_≡_, refl}
 use mathlib.Core.Bool.{true, false, not}
 use mathlib.Core.List.{List, [], _∷_}
 use Prim.Native.Nat.{ℕ}
-use borrow.Author.Tests.{not-false}
+use borrow.Author.Tests.{not-false, eq-eqb, ne-eqb}
 use Rattle.base.specs.Refusals.{WAIT, BEYOND, IMAGE, STATE}
 use Rattle.base.proofs.Faults.{answered, refused-with, none-applies}
 use Rattle.rom.specs.Bits.{imageValid}
 use Rattle.control.specs.Commands.{commandOf, waits, beyond}
 use Rattle.bus.specs.Accept.{accepted}
-use Rattle.chip.specs.Types.{Accepted, Chip}
+use Rattle.control.specs.Status.{busByte}
+use Rattle.chip.specs.Types.{Accepted, Chip, Control, Acknowledged}
 use Rattle.chip.specs.Validity.{valid}
 use Rattle.chip.specs.Write.{commandFault, writeFault, notWritten, afterByte, writeOf}
+use Rattle.chip.specs.Read.{readFault, notAcknowledged, acknowledged, acknowledgeOf, readOf}
+
+-- ---- a written byte
 
 module _ (image : List ℕ) (c : Chip) (b : ℕ) where
   -- what a byte without a fault finds
@@ -39,3 +43,25 @@ module _ (image : List ℕ) (c : Chip) (b : ℕ) where
         → record { chip = d; refusal = 0 } ≡ writeOf image c b
     unfolding writeOf
     write-taken h a d = answered e (notWritten c) _ h (rw (d, a))
+
+-- ---- an acknowledge and a read
+
+module _ (c : Chip) where
+  module _ {n : ℕ} (e : n ≡ readFault c) where
+    pub acknowledge-refused : (n ≡ 0 → ⊥) → record { chip = c; refusal = n } ≡ acknowledgeOf c
+    unfolding acknowledgeOf
+    acknowledge-refused h = refused-with e (notAcknowledged c) _ h refl
+
+    pub acknowledge-taken : {k : Control} → n ≡ 0 → k ≡ acknowledged (c .control)
+        → record { chip = record { control = k; sound = c .sound }; refusal = 0 } ≡ acknowledgeOf c
+    unfolding acknowledgeOf
+    acknowledge-taken h w = answered e (notAcknowledged c) _ h (rw w)
+
+  module _ {a : Acknowledged} (e : a ≡ acknowledgeOf c) where
+    pub read-refused : (a .refusal ≡ 0 → ⊥) → record { chip = a .chip; refusal = a .refusal; byte = 0 } ≡ readOf c
+    unfolding readOf
+    read-refused h = rw (← e, ne-eqb (a .refusal) 0 h)
+
+    pub read-taken : {x : ℕ} → a .refusal ≡ 0 → x ≡ busByte (c .control) → record { chip = a .chip; refusal = a .refusal; byte = x } ≡ readOf c
+    unfolding readOf
+    read-taken h w = rw (← e, eq-eqb (a .refusal) 0 h, w)
