@@ -3,7 +3,7 @@
 use mathlib.Core.Path.{_≡_}
 use mathlib.Core.Bool.{true}
 use mathlib.Core.List.{[], _∷_}
-use Prim.Native.Nat.{ℕ, _*_, _≤_}
+use Prim.Native.Nat.{_≤_}
 use native.Mathlib.Omega.{arith}
 use Rattle.base.proofs.Booleans.{all-true}
 use Rattle.address.specs.Addresses.{positionLimit, addressValid}
@@ -47,16 +47,7 @@ mode-ranges m f h = fifo-ranges (leastLevel m) (mostLevel m) (mostUsed m) f h
 
 -- and what its laws ask for
 pub valid-fits : (m : Mode) (f : Fifo) → fifoValid m f ≡ true → Fits f
-valid-fits m f h = let r = mode-ranges m f h in record { size = r .size; level = level m (r .at-most); used = used m (r .at-least) (r .used-bits) }
-  where
-    level : (m : Mode) → f .level ≤ mostLevel m → f .level ≤ 16
-    level Idle l = omega arith
-    level Rom l = omega arith
-    level Waiting l = omega arith
-    level External l = l
-
-    used : (m : Mode) → leastLevel m ≤ f .level → f .«used_bits» ≤ mostUsed m → f .«used_bits» ≤ 8 * f .level
-    used Idle l u = omega arith
-    used Rom l u = omega arith
-    used Waiting l u = omega arith
-    used External l u = omega arith
+valid-fits Idle f h = let r = mode-ranges Idle f h in omega arith
+valid-fits Rom f h = let r = mode-ranges Rom f h in omega arith
+valid-fits Waiting f h = let r = mode-ranges Waiting f h in omega arith
+valid-fits External f h = let r = mode-ranges External f h in omega arith
