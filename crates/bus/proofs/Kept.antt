@@ -3,24 +3,24 @@
 -- Assumes nothing.
 use mathlib.Core.Path.{_≡_, sym, ap, _∙_, refl, subst}
 use mathlib.Core.Bool.{true, false, true≢false}
-use mathlib.Core.List.{List, [], _∷_}
-use Prim.Native.Nat.{ℕ, _≤_, _<_, zero, suc, _+_, _*_, _/_, _%_}
+use mathlib.Core.List.{List}
+use Prim.Native.Nat.{ℕ, _≤_, _<_, _+_, _*_, _/_, _%_}
 use native.Mathlib.Omega.{arith}
 use borrow.Author.Tests.{eqb-false, leb-true, eqb-true, not-false}
-use native.Mathlib.Numerals.{add-one}
 use lib.Dec.{eqb}
-use lib.ListN.{length, drop, set, length-set}
-use Rattle.fifo.specs.Buffer.{fifoSize, allZero, appended}
+use lib.ListN.{length, drop, length-set}
+use lib.Seq.{drop-drop, drop-set-lt}
+use Rattle.fifo.specs.Buffer.{fifoSize, appended}
 use Rattle.control.specs.Validity.{mostLevel, controlValid, speaks, leastLevel, mostUsed, fifoValid, portValid}
 use Rattle.control.specs.Commands.{waits, commandOf, beyondAt, beyond}
 use Rattle.control.proofs.Ranges.{control-ranges, mode-ranges, ControlRanges, control-in-ranges}
-use Rattle.base.proofs.Booleans.{both-true, by-test}
+use Rattle.base.proofs.Booleans.{by-test}
 use Rattle.rom.specs.Bits.{imageLimit}
 use Rattle.rom.proofs.Checks.{valid-length}
 use Rattle.address.specs.Addresses.{positionLimit, addressLimit, nibbles, withNibble}
 use Rattle.address.proofs.Ranges.{address-ranges, address-in-range}
 use Rattle.clock.specs.Counters.{clockValid}
-use Rattle.fifo.proofs.Ranges.{fifo-in-range}
+use Rattle.fifo.proofs.Ranges.{fifo-in-range, zero-from}
 use Rattle.control.specs.State.{startLevel, powerUpControl}
 use Rattle.bus.specs.Types.{Mode, Idle, Rom, Waiting, External, Control, Command, Accepted, Fifo, Nothing, ReadByte, ReadAndBranch, LoadAddress, Speak, SpeakExternal, Reset}
 use Rattle.bus.specs.Accept.{acceptedIn, accepted, buffered}
@@ -84,17 +84,6 @@ module _ (image : List ℕ) (small : length image ≤ imageLimit) (k : Control) 
 
 -- ---- bytes for the FIFO
 
-all-zero-tail : (l : List ℕ) (n : ℕ) → allZero (drop n l) ≡ true → allZero (drop (suc n) l) ≡ true
-all-zero-tail [] zero h = refl
-all-zero-tail [] (suc n) h = refl
-all-zero-tail (x ∷ l) zero h = both-true (eqb x 0) (allZero l) h .1
-all-zero-tail (x ∷ l) (suc n) h = all-zero-tail l n h
-
-drop-set : (l : List ℕ) (n x : ℕ) → drop (suc n) (set l n x) ≡ drop (suc n) l
-drop-set [] n x = refl
-drop-set (y ∷ l) zero x = refl
-drop-set (y ∷ l) (suc n) x = drop-set l n x
-
 appended-valid : (m m′ : Mode) (f : Fifo) (b : ℕ) → fifoValid m f ≡ true
     → leastLevel m′ ≤ f .level + 1 → f .level + 1 ≤ mostLevel m′ → mostUsed m ≤ mostUsed m′ → fifoValid m′ (appended f b) ≡ true
 appended-valid m m′ f b h l u v =
@@ -104,7 +93,7 @@ appended-valid m m′ f b h l u v =
       at-most = u;
       used-bits = omega (arith, r .used-bits);
       size = simp length-set (r .size);
-      clear = rw (add-one, drop-set (f .bytes) (f .level) b) (all-zero-tail (f .bytes) (f .level) (r .clear));
+      clear = rw (drop-set-lt (f .level + 1) (f .bytes) (f .level) b (omega arith), ← drop-drop 1 (f .level) (f .bytes)) (zero-from (drop (f .level) (f .bytes)) 1 (r .clear));
     })
 
 -- ---- a taken byte

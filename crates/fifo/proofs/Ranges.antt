@@ -1,15 +1,21 @@
 -- What a FIFO's fields are within given bounds, from the tests, and back.
 -- Assumes nothing.
-use mathlib.Core.Path.{_≡_}
+use mathlib.Core.Path.{_≡_, refl}
 use mathlib.Core.Bool.{true}
-use mathlib.Core.List.{[], _∷_}
-use Prim.Native.Nat.{ℕ, _≤_}
+use mathlib.Core.List.{List, [], _∷_}
+use Prim.Native.Nat.{ℕ, zero, suc, _≤_}
 use borrow.Author.Tests.{leb-true, eqb-true, le-leb, eq-eqb}
 use lib.Dec.{eqb, leb}
 use lib.ListN.{length, drop}
 use Rattle.base.proofs.Booleans.{both-true, all-true}
 use Rattle.fifo.specs.declared.Fifo.{Fifo}
 use Rattle.fifo.specs.Buffer.{fifoSize, allZero, clearFrom, fifoInside}
+
+-- what follows zero bytes is zero
+pub zero-from : (l : List ℕ) (n : ℕ) → allZero l ≡ true → allZero (drop n l) ≡ true
+zero-from l zero h = h
+zero-from [] (suc n) h = refl
+zero-from (x ∷ l) (suc n) h = zero-from l n (both-true (eqb x 0) (allZero l) h .1)
 
 module _ (least most used : ℕ) (f : Fifo) where
   pub record FifoRanges : Type 0 where

@@ -23,7 +23,7 @@ use Rattle.address.proofs.Ranges.{address-ranges, address-in-range}
 use Rattle.clock.specs.Counters.{clockValid, stopped, counted, intervalBegins, frameBegins}
 use Rattle.clock.proofs.Ranges.{clock-ranges}
 use Rattle.fifo.specs.Buffer.{allZero, emptied, usedUp}
-use Rattle.fifo.proofs.Ranges.{fifo-in-range}
+use Rattle.fifo.proofs.Ranges.{fifo-in-range, zero-from}
 use Rattle.reports.specs.Reports.{Playable}
 use Rattle.control.specs.State.{withClock}
 use Rattle.control.specs.Validity.{speaks, isIdle, fifoValid, portValid}
@@ -34,11 +34,6 @@ use Rattle.speech.specs.Advance.{within, raises, changed, frameBegun, ra
 use Rattle.speech.proofs.Moving.{held}
 
 -- ---- the FIFO with bits gone
-
-zero-from : (l : List ℕ) (n : ℕ) → allZero l ≡ true → allZero (drop n l) ≡ true
-zero-from l zero h = h
-zero-from [] (suc n) h = refl
-zero-from (x ∷ l) (suc n) h = zero-from l n (both-true (eqb x 0) (allZero l) h .1)
 
 zero-append : (xs ys : List ℕ) (n : ℕ) → allZero (drop n xs) ≡ true → allZero ys ≡ true → allZero (drop n (xs ++ ys)) ≡ true
 zero-append [] ys n h g = zero-from ys n g
