@@ -1,7 +1,7 @@
 -- The first of a list of faults, and what a call returns by its fault.
 -- Assumes nothing.
-use mathlib.Core.Path.{_≡_, refl, sym, _∙_}
-use mathlib.Core.Bool.{Bool, true, false, cond, not, true≢false}
+use mathlib.Core.Path.{_≡_, refl, sym, ap, _∙_}
+use mathlib.Core.Bool.{Bool, true, false, not, true≢false}
 use mathlib.Core.List.{List, [], _∷_}
 use Prim.Native.Nat.{ℕ, zero, suc}
 use native.Mathlib.Omega.{arith}
@@ -57,6 +57,22 @@ pub first-is : {fs : List (Bool × ℕ)} {m : ℕ} → First fs m → m ≡ firs
 first-is none = refl
 first-is (applies {fault} {n} {fs} e h) = sym (cond-true fault n (firstFault fs) (sym e ∙ h))
 first-is (passes {fault} {n} {fs} e h k) = first-is k ∙ sym (cond-false fault n (firstFault fs) (sym e ∙ h))
+
+-- where the call tests that something is as it should be
+module _ {r ok : Bool} {n : ℕ} {fs : List (Bool × ℕ)} (e : r ≡ ok) where
+  pub applies-not : not r ≡ true → First ((not ok, n) ∷ fs) n
+  applies-not h = applies (ap not e) h
+
+  pub passes-not : {m : ℕ} → not r ≡ false → First fs m → First ((not ok, n) ∷ fs) m
+  passes-not h k = passes (ap not e) h k
+
+-- where it tests the fault of something else
+module _ {r n : ℕ} {fs : List (Bool × ℕ)} (e : r ≡ n) where
+  pub applies-own : (r ≡ 0 → ⊥) → First ((not (eqb n 0), n) ∷ fs) r
+  applies-own h = rw (← e) (applies {r = not (eqb r 0)} refl (rw (ne-eqb r 0 h)))
+
+  pub passes-own : {m : ℕ} → r ≡ 0 → First fs m → First ((not (eqb n 0), n) ∷ fs) m
+  passes-own h k = passes {r = not (eqb n 0)} refl (rw (← e, h)) k
 
 -- ---- what a call returns by its fault
 

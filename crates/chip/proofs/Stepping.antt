@@ -10,7 +10,7 @@ use lib.ListN.{length}
 use borrow.Author.Tests.{eqb-true, not-false}
 use Rattle.base.specs.Refusals.{IMAGE, STATE}
 use Rattle.base.specs.Steps.{stateAfter, outputs}
-use Rattle.base.proofs.Faults.{answered, refused-with, own-number, none-applies}
+use Rattle.base.proofs.Faults.{First, first-is, answered, refused-with, own-number, none-applies}
 use Rattle.rom.specs.Bits.{imageValid}
 use Rattle.rom.specs.Frames.{pitchBits}
 use Rattle.voice.specs.Check.{voiceFault, version}
@@ -24,6 +24,16 @@ use Rattle.chip.specs.Run.{sampleStep, notRun, runOf, bufferOf}
 use Rattle.chip.specs.Laws.{ControlAlone}
 
 module _ (image voice : List ℕ) (c : Chip) where
+  -- the faults of a step, in the order of the checks
+  abbrev stepFaults : List (Bool × ℕ)
+  stepFaults =
+      let v = voiceFault pitchBits version voice in
+      (not (imageValid image), IMAGE) ∷ (not (eqb v 0), v) ∷ (not (valid c), STATE) ∷ []
+
+  pub step-fault : {n : ℕ} → First stepFaults n → n ≡ stepFault image voice c
+  unfolding stepFault
+  step-fault h = first-is h
+
   -- what a step without a fault finds
   pub record Passed : Type 0 where
     pub image-valid : imageValid image ≡ true
@@ -33,9 +43,7 @@ module _ (image voice : List ℕ) (c : Chip) where
   pub passed : stepFault image voice c ≡ 0 → Passed
   unfolding stepFault
   passed h =
-      let v = voiceFault pitchBits version voice in
-      let last : List (Bool × ℕ) = (not (valid c), STATE) ∷ [] in
-      let r = none-applies ((not (imageValid image), IMAGE) ∷ (not (eqb v 0), v) ∷ last) (own-number v last tt) h in
+      let r = none-applies stepFaults (own-number (voiceFault pitchBits version voice) ((not (valid c), STATE) ∷ []) tt) h in
       record { image-valid = not-false _ (r .0); voice-valid = eqb-true _ _ (not-false _ (r .1 .0)); chip-valid = not-false _ (r .1 .1 .0) }
 
   pub no-fault : Passed → stepFault image voice c ≡ 0
