@@ -101,10 +101,10 @@ module _ (image : List ℕ) (k : Control) (h : Calm k) where
         ∙ ap (byAnswer chipForm image (speechOf k)) (plain-read pitchBits image (k .address .position))))
         (by-answer e b (frameAt pitchBits image (k .address .position)))
     boundary Waiting e = resting e refl refl
-    boundary External e = absurd (other (sym e ∙ h .mode ∙ ap (λ (m : Mode). modeOf (speaks m)) e))
-      where
-        other : External ≡ Rom → ⊥
-        other z = let y : _≡_ {A = ℕ} 0 1 = cc in omega arith
+    boundary External e =
+        let z : External ≡ Rom = sym e ∙ h .mode ∙ ap (λ (m : Mode). modeOf (speaks m)) e in
+        let y : _≡_ {A = ℕ} 0 1 = cc in
+        absurd (omega arith)
 
   pub moves : Moves
   unfolding advanced

@@ -45,10 +45,7 @@ nibble-above i x v h g l =
 
 -- the fifth, of which only the two low bits count
 fifth-above : (x v q : ℕ) → x < 65536 → v < 16 → v % 4 ≡ q → withNibble (8 * x / 8 % addressLimit) 4 v ≡ q * 65536 + x
-fifth-above x v q h g d = rw e (omega arith)
-  where
-    e : 8 * x / 8 % addressLimit ≡ x
-    e = omega arith
+fifth-above x v q h g d = let e : 8 * x / 8 % addressLimit ≡ x = omega arith in rw e (omega arith)
 
 module _ (image : List ℕ) (i : imageValid image ≡ true) (a : ℕ) where
   loads-at : (p n b : ℕ) → p ≤ positionLimit → n < nibbles → commandOf b ≡ LoadAddress
@@ -71,14 +68,9 @@ module _ (image : List ℕ) (i : imageValid image ≡ true) (a : ℕ) where
   loads-fifth : (b : ℕ) → a < addressLimit → commandOf b ≡ LoadAddress → b % 4 ≡ a / 65536 % 4
       → writeOf image (placed (8 * (a % 65536)) 4) b ≡ record { chip = placed (8 * a) 0; refusal = 0 }
   loads-fifth b l e d =
+      let low : b % 16 % 4 ≡ a / 65536 = omega arith in
       loads-at (8 * (a % 65536)) 4 b (omega arith) (omega arith) e
-      ∙ ap (λ (x : ℕ). record { chip = placed (8 * x) 0; refusal = 0 }) top
-    where
-      low : b % 16 % 4 ≡ a / 65536
-      low = omega arith
-
-      top : withNibble (8 * (a % 65536) / 8 % addressLimit) 4 (b % 16) ≡ a
-      top = fifth-above (a % 65536) (b % 16) (a / 65536) (omega arith) (omega arith) low ∙ omega arith
+      ∙ ap (λ (x : ℕ). record { chip = placed (8 * x) 0; refusal = 0 }) (fifth-above (a % 65536) (b % 16) (a / 65536) (omega arith) (omega arith) low ∙ omega arith)
 
 -- ---- bytes that are taken one after another
 

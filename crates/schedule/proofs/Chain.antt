@@ -8,7 +8,7 @@ use native.Mathlib.Omega.{arith}
 use lib.ListN.{length}
 use Rattle.base.proofs.Booleans.{by-test}
 use Rattle.rom.specs.Frames.{isStop}
-use Rattle.rom.specs.Items.{Code, ItemAnswer, whole, cut, bitsAll, Encoded, itemsFrom, itemsOf, There, phrase, none}
+use Rattle.rom.specs.Items.{Code, ItemAnswer, whole, cut, bitsAll, itemsFrom, itemsOf, There, phrase, none}
 use Rattle.rom.proofs.Encoding.{begins-room}
 use Rattle.rom.proofs.Prefixed.{prefixed-law, prefixed-read}
 use Rattle.schedule.specs.Form.{Form, Item, itemCode, readItem}
@@ -16,14 +16,8 @@ use Rattle.schedule.proofs.Due.{width}
 
 -- items stand within the image
 pub there-inside : (C : Code) (image : List ℕ) (start : ℕ) (fs : List (C .Item)) → There C image start fs → start ≤ 8 * length image
-there-inside C image start fs h = go h
-  where
-    inside : Encoded C image start fs → start ≤ 8 * length image
-    inside e = omega (arith, begins-room image start (bitsAll C fs) (e .begins))
-
-    go : There C image start fs → start ≤ 8 * length image
-    go (phrase p) = inside (p .encoded)
-    go (none n l) = inside (l .encoded)
+there-inside C image start fs (phrase p) = omega (arith, begins-room image start (bitsAll C fs) (p .encoded .begins))
+there-inside C image start fs (none n l) = omega (arith, begins-room image start (bitsAll C fs) (l .encoded .begins))
 
 -- the items `is` are read from bit p on, up to a stop or to where the bits end
 pub data Chain (F : Form) (image : List ℕ) : ℕ → List Item → Type 0 where

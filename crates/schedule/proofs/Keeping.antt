@@ -49,10 +49,8 @@ pub after-steps : {S A : Type 0} (step : S → S × A) (P : ℕ → S → Type 0
     → (m : ℕ) {n : ℕ} {s : S} → P n s → P (n + m) (stateAfter step m s)
 after-steps step P moves zero {n} h = rw (add-zero n) h
 after-steps step P moves (suc m) {n} {s} h =
-    subst (λ (x : ℕ). P x (stateAfter step (suc m) s)) (by-one n m) (after-steps step P moves m (moves n s h))
-  where
-    by-one : (x y : ℕ) → x + 1 + y ≡ x + suc y
-    by-one x y = omega arith
+    let e : n + 1 + m ≡ n + suc m = omega arith in
+    subst (λ (x : ℕ). P x (stateAfter step (suc m) s)) e (after-steps step P moves m (moves n s h))
 
 module _ (F : Form) (keeps : KeepsSome F) where
   -- an item's samples and those of the intervals that it skips are a whole frame's
@@ -123,11 +121,9 @@ module _ (F : Form) (keeps : KeepsSome F) where
 
         runs-out : readItem F image p ≡ cut → p ≤ 8 * length image → Steps at p n []
         runs-out w l =
+            let at-end : max (s .position) (8 * length image) ≡ 8 * length image = omega arith in
             subst (Next at p n []) (sym (reads m q t w))
-            (record { told = sym (told-out F at (n + 1) a); state = out (omega arith) refl (at-end q l) refl })
-          where
-            at-end : {x : ℕ} → x ≡ p → p ≤ 8 * length image → max x (8 * length image) ≡ 8 * length image
-            at-end {x} e h = omega arith
+            (record { told = sym (told-out F at (n + 1) a); state = out (omega arith) refl at-end refl })
 
       -- the stop's frame sounds on, rests at its end, and stays so
       after-stop : {at p n : ℕ} {i : Item} → isStop (i .1) ≡ true → at ≤ n → s .talking ≡ false → s .position ≡ p + width F i

@@ -57,10 +57,6 @@ use Rattle.phrase_walk.proofs.walk_phrase.Code as code
 abbrev stayed : Stays (walk-phrase.ended .signature .params) (walk-phrase.ended .kept)
 stayed = (stay-none-slice (0 ∷ []) tt (plain (λ _. u8)) yes, (stay-none (λ _. usize) yes, tt))
 
--- the walk's numbers have one machine value
-numbers-tell : (r : Walked) (u : Val) → Is N.the-row r (u ∷ []) → u ≡ N′.lowered r
-numbers-tell r u is = ap only (N′.lowers .val-is r (u ∷ []) is)
-
 pub walk-phrase-spec : {M : Type 1} → stated.statement M
 unfolding code.routine tablesOf
 walk-phrase-spec 𝓤 H 𝓜 𝓖 𝓡 =
@@ -115,7 +111,7 @@ walk-phrase-spec 𝓤 H 𝓜 𝓖 𝓡 =
     use1 W (later (some (λ (r : Walked). (Token ⊛ ‵ (N.the-row .own r (u ∷ []))) ⊛ some (λ (ws : Lasts walk-of.ended (κ, tt) a). ‵ (lasts walk-of.ended (κ, tt) a ws) ⊛ raw (fact 𝓤 (r ≡ found)))))) (id⊢ 𝓤 _) $ await ! tt $ pick ! (λ r.
     split ! $ move ! (1 ∷ []) $ pick ! (λ ws. split ! $ drop ! $ heard ! (r ≡ found) (λ e. split ! $ move ! (1 ∷ []) $
     facts ! N.the-row (Is N.the-row) (shows 𝓤 H A N.the-row) r (u ∷ []) (λ is′.
-    let w : u ≡ N′.lowered found = numbers-tell r u is′ ∙ ap N′.lowered e in
+    let w : u ≡ N′.lowered found = ap only (N′.lowers .val-is r (u ∷ []) is′) ∙ ap N′.lowered e in
     let is = subst (λ (z : Walked). Is N.the-row z (N′.lowered found ∷ [])) e (subst (λ (z : Val). Is N.the-row r (z ∷ [])) w is′) in
     land ! (from ! (stop !)) (init ! 6 refl (LL.lawful N.the-type N′.the-laws 𝓤 H A W .typed r _ is′ .0)) $
     rewrite ! 6 (λ (z : Val). ‵ (fat fullShare N′.mir l₃ 0 z)) w refl $
