@@ -94,16 +94,12 @@ opening image a i inside l = (taken-numbers all, subst (Ready a) (sym (taken-chi
     small : a < addressLimit
     small = omega (arith, valid-length image i .1)
 
-    none : a % 1 ≡ 0
-    none = omega arith
-
     first : writeOf image powerUp (l .byte0) ≡ record { chip = placed (8 * (a % 16)) 1; refusal = 0 }
     first =
+        let none : a % 1 ≡ 0 = omega arith in
+        let one : a / 1 % 16 ≡ a % 16 = omega arith in
         subst (λ (x : ℕ). writeOf image (placed (8 * x) 0) (l .byte0) ≡ record { chip = placed (8 * (a % 16)) 1; refusal = 0 }) none
-        (loads image i a 0 (l .byte0) (omega arith) (omega arith) (omega arith) (l .load0 .0) (l .load0 .1 ∙ sym (one a)))
-      where
-        one : (x : ℕ) → x / 1 % 16 ≡ x % 16
-        one x = omega arith
+        (loads image i a 0 (l .byte0) (omega arith) (omega arith) (omega arith) (l .load0 .0) (l .load0 .1 ∙ sym one))
 
     all : Taken image powerUp (loadBytes l) (placed (8 * a) 0)
     all =

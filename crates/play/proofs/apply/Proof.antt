@@ -1,29 +1,20 @@
 -- `play::apply` meets its contract. Assumes nothing.
 use borrow.Author.Needs.{needs}
-use mathlib.Core.Path.{_≡_, subst}
-use mathlib.Core.Bool.{true}
+use mathlib.Core.Path.{subst}
 use denote.Ref.{now}
-use Rattle.sound.specs.State.{soundValid}
-use Rattle.sound.specs.Targets.{withTargets}
-use Rattle.sound.specs.Interpolation.{interpolated}
 use Rattle.sound.proofs.Laws.{stays-valid}
 use Rattle.reports.specs.Reports.{Playable}
 use Rattle.play.proofs.apply.Statement.{statement}
 use Rattle.play.proofs.apply.Tie as tie
 
--- the sound with the targets of the frame is valid
-aimed-valid : (c : tie.After-set-targets) → soundValid (c .set-targets .result) ≡ true
-aimed-valid c =
-    let s = c .before .before .before .before .before in
-    let a = c .before .before .action .given in
-    let p = subst (Playable (s .args .pitch-bits)) (a .1) (s .pre .2) in
-    rw (c .set-targets .ensures) (stays-valid .targets (s .args .pitch-bits) (s .pre .1 .0) (now (s .args .voice)) (a .0 .0) (s .args .sound) (s .pre .1 .1) (p .0) (s .pre .3))
-
+-- the sound with the targets of the frame is valid, and so is the interval
 interpolate-requires : tie.Need-interpolate-requires
 interpolate-requires c κs =
     let s = c .before .before .before .before .before in
     let a = c .before .before .action .given in
-    (aimed-valid c, subst (Playable (s .args .pitch-bits)) (a .1) (s .pre .2) .1)
+    let p = subst (Playable (s .args .pitch-bits)) (a .1) (s .pre .2) in
+    let v = stays-valid .targets (s .args .pitch-bits) (s .pre .1 .0) (now (s .args .voice)) (a .0 .0) (s .args .sound) (s .pre .1 .1) (p .0) (s .pre .3) in
+    (rw (c .set-targets .ensures) v, p .1)
 
 interpolate-requires-2 : tie.Need-interpolate-requires-2
 interpolate-requires-2 c κs =
@@ -34,7 +25,7 @@ pub apply-spec : {M : Type 1} → statement M
 apply-spec =
     tie.close (tie.spec (λ c. search needs) (λ c κs. search needs) (λ c. search needs) (λ c κs. search needs)
     (λ c κs. search needs) (λ c. search needs) (λ c κs. search needs) interpolate-requires
-    (λ c κs. (rw (c .interpolate .ensures) (stays-valid .interpolation _ _ (aimed-valid (c .before))), c .before .before .before .before .before .before .pre .0))
+    (λ c κs. (rw (c .interpolate .ensures) (stays-valid .interpolation _ _ (interpolate-requires (c .before) tt .0)), c .before .before .before .before .before .before .pre .0))
     (λ c. search needs) interpolate-requires-2
     (λ c κs. let p = c .before .before .before .before .before .pre in (rw (c .interpolate2 .ensures) (stays-valid .interpolation _ _ (p .3)), p .0))
     (λ c. search needs) (λ c κs. search needs)
