@@ -1,5 +1,4 @@
 -- `address::weight` meets its contract. Assumes nothing.
-use borrow.Author.Needs.{needs}
 use native.Mathlib.Omega.{arith}
 use mathlib.Core.Path.{_≡_}
 use Rattle.address.proofs.weight.Statement.{statement}
