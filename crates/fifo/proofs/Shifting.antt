@@ -1,7 +1,7 @@
 -- Bytes moved to the front one after another.
 -- Assumes nothing.
-use mathlib.Core.Path.{_≡_, sym, ap, _∙_}
-use mathlib.Core.List.{List, [], _∷_, _++_, append-assoc}
+use mathlib.Core.Path.{_≡_, sym, ap}
+use mathlib.Core.List.{List, _++_, append-assoc}
 use Prim.Native.Nat.{ℕ, suc, _+_, _-_, _<_, _≤_}
 use native.Mathlib.Omega.{arith}
 use lib.ListN.{length, getD, take, drop, set, replicate, length-drop}
@@ -24,17 +24,10 @@ module _ (b : List ℕ) (n : ℕ) where
         let next : i + 1 - n ≡ suc j = omega arith in
         let back : n + j ≡ i = omega arith in
         let left : 16 - suc j ≡ 15 - j = omega arith in
-        ap (λ (m : ℕ). set (take j (drop n b) ++ replicate m 0) j (getD b i 0)) rest
-        ∙ set-at (take j (drop n b)) 0 (replicate (15 - j) 0) (getD b i 0) j (length-take-le j (drop n b) (omega (arith, short)))
-        ∙ sym
-        (ap (partly b n) next
-        ∙ ap (λ (m : ℕ). take (suc j) (drop n b) ++ replicate m 0) left
-        ∙ ap (λ (l : List ℕ). l ++ replicate (15 - j) 0) (take-suc (drop n b) j 0 short)
-        ∙ append-assoc (take j (drop n b)) (getD (drop n b) j 0 ∷ []) (replicate (15 - j) 0)
-        ∙ ap (λ (x : ℕ). take j (drop n b) ++ (x ∷ replicate (15 - j) 0)) (getD-drop n b j 0 ∙ ap (λ (m : ℕ). getD b m 0) back))
+        rw (rest, set-at (take j (drop n b)) 0 (replicate (15 - j) 0) (getD b i 0) j (length-take-le j (drop n b) (omega (arith, short))))
+        (rw (next, left, take-suc (drop n b) j 0 short, append-assoc, getD-drop n b j 0, back))
 
     pub shift-all : n ≤ 16 → partly b n (16 - n) ≡ drop n b ++ replicate n 0
     shift-all p =
         let back : 16 - (16 - n) ≡ n = omega arith in
-        ap (λ (l : List ℕ). l ++ replicate (16 - (16 - n)) 0) (take-all (16 - n) (drop n b) (simp (length-drop, whole) (omega arith)))
-        ∙ ap (λ (m : ℕ). drop n b ++ replicate m 0) back
+        rw (back, take-all (16 - n) (drop n b) (simp (length-drop, whole) (omega arith)))

@@ -3,7 +3,7 @@
 -- Assumes nothing.
 use mathlib.Core.Path.{_≡_, refl, sym, ap, _∙_, subst}
 use mathlib.Core.Logic.{_↔_}
-use mathlib.Core.Bool.{Bool, true, false, cond, _||_, true≢false, false≢true}
+use mathlib.Core.Bool.{true, false, true≢false, false≢true}
 use mathlib.Core.List.{List, [], _∷_, _++_}
 use Prim.Native.Nat.{ℕ, zero, suc, _+_, _*_, _≤_}
 use native.Mathlib.Omega.{arith}
@@ -91,13 +91,11 @@ module _ (C : Code) (s : List ℕ) (read : ℕ → ItemAnswer (C .Item)) (lawful
   beginning [] n at l h t = (itemsFrom C read at n, refl)
   beginning (g ∷ gs) zero at l h t = absurd (omega arith)
   beginning (g ∷ gs) (suc n) at l h t =
-      go (beginning gs n (at + length (C .bits g)) (omega arith) (first h .1)) (C .stops g) refl (rw (first h .0) at t)
-    where
-      go : (hasStop C (itemsFrom C read (at + length (C .bits g)) n) ≡ false → (ts : List (C .Item)) × (itemsFrom C read (at + length (C .bits g)) n ≡ gs ++ ts))
-          → (b : Bool) → C .stops g ≡ b → (b || hasStop C (cond b [] (itemsFrom C read (at + length (C .bits g)) n))) ≡ false
-          → (ts : List (C .Item)) × (itemsFrom C read at (suc n) ≡ g ∷ (gs ++ ts))
-      go ih true e q = absurd (true≢false q)
-      go ih false e q = let r = ih q in (r .0, rw (first h .0, e, r .1))
+      either-way (C .stops g)
+      (λ e. absurd (true≢false (rw (first h .0, e) at t)))
+      (λ e.
+      let r = beginning gs n (at + length (C .bits g)) (omega arith) (first h .1) (rw (first h .0, e) at t) in
+      (r .0, rw (first h .0, e) (ap {B = List (C .Item)} (λ l. g ∷ l) (r .1))))
 
   append-nothing : (fs ts : List (C .Item)) → length (fs ++ ts) ≤ length fs → fs ++ ts ≡ fs
   append-nothing [] [] h = refl
