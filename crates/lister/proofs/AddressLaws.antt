@@ -10,10 +10,9 @@ use borrow.Author.Tests.{lt-ltb, le-ltb, le-leb, lt-leb, ltb-true, ltb-false}
 use lib.Dec.{ltb}
 use lib.ListN.{length, drop, getD}
 use lib.Seq.{drop-cons, drop-length}
-use Rattle.base.proofs.Booleans.{both-true, by-test}
+use Rattle.base.proofs.Booleans.{both-true, either-way, by-test}
 use Rattle.rom.specs.Bits.{imageLimit}
 use Rattle.lister.specs.Address.{isDigit, allDigits, numberAfter, addressAfter, addressOf}
-use Rattle.lister.proofs.Decimals.{by-cases}
 
 -- more digits make no smaller number
 number-grows : (n : ℕ) (cs : List ℕ) → n ≤ numberAfter n cs
@@ -64,8 +63,8 @@ pub address-more : (n c : ℕ) (cs : List ℕ) → addressAfter n (c ∷ cs) ≡
 unfolding addressAfter numberAfter allDigits
 address-more n c cs =
     let m = 10 * n + (c - 48) in
-    by-cases (ltb m imageLimit)
-    (λ e. by-cases (isDigit c) (λ f. rw (e, f)) (λ f. rw (e, f, address-past imageLimit cs (omega arith), and-false)))
+    either-way (ltb m imageLimit)
+    (λ e. either-way (isDigit c) (λ f. rw (e, f)) (λ f. rw (e, f, address-past imageLimit cs (omega arith), and-false)))
     (λ e.
     let l = ltb-false m imageLimit e in
     rw (e, address-past imageLimit cs (omega arith), le-ltb (numberAfter m cs) imageLimit (omega (arith, number-grows m cs))))

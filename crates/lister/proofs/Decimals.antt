@@ -1,7 +1,6 @@
--- Laws of decimal digits; and two cases of a test.
+-- Laws of decimal digits.
 -- Assumes nothing.
 use mathlib.Core.Path.{_≡_, refl}
-use mathlib.Core.Bool.{Bool, true, false}
 use mathlib.Core.List.{[], _∷_, _++_}
 use Prim.Native.Nat.{ℕ, zero, suc, _+_, _/_, _%_, _^_, _≤_, _<_}
 use native.Mathlib.Nat.{pow-suc}
@@ -9,12 +8,8 @@ use native.Mathlib.Omega.{arith}
 use borrow.Author.Tests.{lt-ltb, le-ltb, ltb-false}
 use lib.Dec.{ltb}
 use lib.ListN.{length, length-append}
+use Rattle.base.proofs.Booleans.{either-way}
 use Rattle.lister.specs.Text.{digitsOf, decimal}
-
--- what follows from a test that holds and from one that fails holds
-pub by-cases : {A : Type 0} (b : Bool) → (b ≡ true → A) → (b ≡ false → A) → A
-by-cases true f g = f refl
-by-cases false f g = g refl
 
 -- more than n + 1 digits are not needed
 digits-enough : (j k n : ℕ) → n < j → n < k → digitsOf j n ≡ digitsOf k n
@@ -22,7 +17,7 @@ unfolding digitsOf
 digits-enough zero k n h g = absurd (omega arith)
 digits-enough (suc j) zero n h g = absurd (omega arith)
 digits-enough (suc j) (suc k) n h g =
-    by-cases (ltb n 10) (λ e. rw e)
+    either-way (ltb n 10) (λ e. rw e)
     (λ e. let l = ltb-false n 10 e in rw (e, digits-enough j k (n / 10) (omega arith) (omega arith)))
 
 pub decimal-one : (n : ℕ) → n < 10 → decimal n ≡ (48 + n % 10) ∷ []
@@ -38,7 +33,7 @@ unfolding digitsOf
 digits-length zero j n h = omega arith
 digits-length (suc k) zero n h = rw (lt-ltb n 10 (omega arith)) (omega arith)
 digits-length (suc k) (suc j) n h =
-    by-cases (ltb n 10) (λ e. rw e (omega arith))
+    either-way (ltb n 10) (λ e. rw e (omega arith))
     (λ e. rw (e, length-append) (omega (arith, digits-length k j (n / 10) (omega (arith, pow-suc 10 (suc j))))))
 
 -- a number below 10 ^ (j + 1) has at most j + 1 digits

@@ -14,7 +14,7 @@ use Rattle.rom.specs.declared.frames.Frame.the-variants.{Silence, Stop, Repeat,
 use Rattle.rom.specs.declared.reader.FrameAnswer.{FrameAnswer}
 use Rattle.rom.specs.declared.reader.FrameAnswer.the-variants.{Whole, Cut}
 use Rattle.rom.proofs.Checks.{valid-length}
-use Rattle.lister.proofs.Decimals.{by-cases}
+use Rattle.base.proofs.Booleans.{either-way}
 
 bits-most : (f : Frame) → bitCount pitchBits f ≤ 50
 bits-most Silence = omega arith
@@ -30,7 +30,7 @@ taken-most Cut = omega arith
 pub next-fits : (s : List ℕ) (at : ℕ) → at < 2 ^ 64 → at + frameTakenOf pitchBits s at .bits < 2 ^ 64
 unfolding frameTakenOf
 next-fits s at h =
-    by-cases (imageValid s)
-    (λ p. by-cases (leb (8 * length s) at) (λ q. rw (p, q) (omega arith))
+    either-way (imageValid s)
+    (λ p. either-way (leb (8 * length s) at) (λ q. rw (p, q) (omega arith))
     (λ q. rw (p, q) (omega (arith, taken-most (frameAt pitchBits s at), valid-length s p, leb-false (8 * length s) at q))))
     (λ p. rw p (omega arith))

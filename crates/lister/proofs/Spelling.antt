@@ -8,11 +8,11 @@ use native.Mathlib.Omega.{arith}
 use borrow.Author.Tests.{lt-ltb, le-leb, ltb-true, ltb-false}
 use lib.Dec.{ltb}
 use lib.ListN.{length, length-append}
-use Rattle.base.proofs.Booleans.{both-true, and-true}
+use Rattle.base.proofs.Booleans.{both-true, and-true, either-way}
 use Rattle.rom.specs.Bits.{imageLimit}
 use Rattle.lister.specs.Text.{decimal}
 use Rattle.lister.specs.Address.{isDigit, allDigits, numberAfter, addressAfter, addressOf}
-use Rattle.lister.proofs.Decimals.{by-cases, decimal-one, decimal-more}
+use Rattle.lister.proofs.Decimals.{decimal-one, decimal-more}
 
 -- a last digit
 number-last : (n : ℕ) (cs : List ℕ) (c : ℕ) → numberAfter n (cs ++ (c ∷ [])) ≡ 10 * numberAfter n cs + (c - 48)
@@ -37,7 +37,7 @@ decimal-spells zero n h = absurd (omega arith)
 decimal-spells (suc k) n h =
     let c = 48 + n % 10 in
     let d : isDigit c ≡ true = rw (le-leb 48 c (omega arith), le-leb c 57 (omega arith)) in
-    by-cases (ltb n 10)
+    either-way (ltb n 10)
     (λ e.
     let l = ltb-true n 10 e in
     rw (decimal-one n l) (record { some = omega arith; digits = rw d; number = omega arith }))

@@ -13,7 +13,7 @@ use Rattle.rom.specs.Frames.{pitchBits}
 use Rattle.rom.specs.Items.{bitsAll, itemsFrom}
 use Rattle.rom.specs.Phrases.{frameCode, walkOf, phraseOf}
 use Rattle.rom.specs.Reader.{decoded, frameAt}
-use Rattle.base.proofs.Booleans.{by-test}
+use Rattle.base.proofs.Booleans.{either-way, by-test}
 use Rattle.rom.proofs.Checks.{valid-length}
 use Rattle.rom.proofs.Encoding.{begins-room}
 use Rattle.rom.proofs.Theorems.{walk-counts, walk-refuses}
@@ -21,7 +21,6 @@ use Rattle.lister.specs.Text.{digitsOf, decimal}
 use Rattle.lister.specs.Lines.{kindWord, pitchText, kCount, indexes, frameLine, phraseLine, refusedLine}
 use Rattle.lister.specs.Asked.{atAddress}
 use Rattle.lister.specs.Listing.{linesOf, listingOf, listingFrom}
-use Rattle.lister.proofs.Decimals.{by-cases}
 use Rattle.lister.proofs.PhraseLines.{frames-found}
 use Rattle.lister.proofs.ListingLaws.{listing-long}
 use Rattle.lister.proofs.Spelling.{address-of-decimal}
@@ -56,7 +55,7 @@ pub lists-at-argument : ListsAtArgument
 lists-at-argument a s =
     rw (address-of-decimal a)
     (by-test (λ n. listingFrom n s ≡ listingFrom a s) (ltb a imageLimit) (λ t. refl)
-    (λ t. by-cases (imageValid s)
+    (λ t. either-way (imageValid s)
     (λ v.
     let h = valid-length s v .1 in
     lists-beyond _ s v h h ∙ sym (lists-beyond (atAddress a) s v h (omega (arith, ltb-false a imageLimit t))))
