@@ -9,3 +9,4 @@ pub mod Filling
 pub mod AddressLaws
 pub mod Spelling
 pub mod Theorems
+pub mod Same

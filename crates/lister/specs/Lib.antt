@@ -4,3 +4,4 @@ pub mod Address
 pub mod Asked
 pub mod Listing
 pub mod Theorems
+pub mod WasListing

@@ -6,3 +6,5 @@ pub mod Items
 pub mod Phrases
 pub mod Prefix
 pub mod Theorems
+pub mod WasReader
+pub mod WasPhrases

@@ -5,3 +5,4 @@ pub mod Pulses
 pub mod Signed
 pub mod Tables
 pub mod Valid
+pub mod Same

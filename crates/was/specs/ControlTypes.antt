@@ -1,0 +1,10 @@
+-- The declared types of the source, by short names.
+pub use Rattle.control.specs.declared.state.Mode.{Mode}
+pub use Rattle.control.specs.declared.state.Mode.the-variants.{Idle, Rom, Waiting, External}
+pub use Rattle.address.specs.declared.AddressRegister.{AddressRegister}
+pub use Rattle.fifo.specs.declared.Fifo.{Fifo}
+pub use Rattle.control.specs.declared.state.Port.{Port}
+pub use Rattle.clock.specs.declared.Clock.{Clock}
+pub use Rattle.control.specs.declared.state.Control.{Control}
+pub use Rattle.control.specs.declared.commands.Command.{Command}
+pub use Rattle.control.specs.declared.commands.Command.the-variants.{Nothing, ReadByte, ReadAndBranch, LoadAddress, Speak, SpeakExternal, Reset}

@@ -1,0 +1,1 @@
+// Version 1.0's definitions, kept for one comparison.
