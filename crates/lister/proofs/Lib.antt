@@ -9,4 +9,3 @@ pub mod Filling
 pub mod AddressLaws
 pub mod Spelling
 pub mod Theorems
-pub mod Same

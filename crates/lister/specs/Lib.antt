@@ -4,4 +4,3 @@ pub mod Address
 pub mod Asked
 pub mod Listing
 pub mod Theorems
-pub mod WasListing

@@ -12,4 +12,3 @@ pub mod WholeFrame
 pub mod Walking
 pub mod Theorems
 pub mod Prefixed
-pub mod Same

@@ -6,5 +6,3 @@ pub mod Items
 pub mod Phrases
 pub mod Prefix
 pub mod Theorems
-pub mod WasReader
-pub mod WasPhrases

@@ -5,4 +5,3 @@ pub mod Pulses
 pub mod Signed
 pub mod Tables
 pub mod Valid
-pub mod Same

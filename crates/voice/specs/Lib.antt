@@ -1,5 +1,3 @@
 pub mod Layout
 pub mod Check
 pub mod Valid
-pub mod WasLayout
-pub mod WasCheck

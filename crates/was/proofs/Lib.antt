@@ -1,3 +1,0 @@
-pub mod Same
-pub mod Operations
-pub mod Demand
