@@ -1,6 +1,6 @@
 -- The lattice filter from the last stage down: one stage more at the end of the lists, and what a stage does in place.
 -- Assumes nothing.
-use mathlib.Core.Path.{_≡_, refl, sym, ap, _∙_}
+use mathlib.Core.Path.{_≡_, refl, sym, ap, ap₂, _∙_}
 use mathlib.Core.List.{List, [], _∷_, _++_, append-assoc, append-nil}
 use Prim.Native.Nat.{ℕ, suc, _<_}
 use native.Mathlib.Nat.{suc-inj}
@@ -26,7 +26,8 @@ module _ (k m x : ℤ) where
   upper-snoc [] [] e = refl
   upper-snoc [] (n ∷ ms) e = absurd (omega arith)
   upper-snoc (j ∷ ks) [] e = absurd (omega arith)
-  upper-snoc (j ∷ ks) (n ∷ ms) e = rw (forward-snoc ks ms (suc-inj e), upper-snoc ks ms (suc-inj e))
+  upper-snoc (j ∷ ks) (n ∷ ms) e =
+      ap₂ (λ (f : ℤ) (r : List ℤ). memoryOf j n (forwardOf j n f) ∷ r) (forward-snoc ks ms (suc-inj e)) (upper-snoc ks ms (suc-inj e))
 
 pub upper-length : (ks ms : List ℤ) (x : ℤ) → length ks ≡ length ms → length (upperMemory ks ms x) ≡ length ks
 upper-length [] [] x e = refl

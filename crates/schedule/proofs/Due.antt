@@ -15,7 +15,7 @@ use Rattle.rom.specs.Items.{bitsAll, hasStop, Ended, last, more}
 use Rattle.rom.proofs.ItemLaws.{has-stop}
 use Rattle.schedule.specs.Form.{Form, Item, itemCode, lasting, KeepsSome}
 use Rattle.schedule.specs.Types.{NoReport, RanOut, tells}
-use Rattle.schedule.specs.Schedule.{dueReport, dueFrom, endFrom, toldFrom, talksFrom, positionFrom, totalSamples, Numbered, JustAfter}
+use Rattle.schedule.specs.Schedule.{dueReport, dueFrom, endFrom, toldFrom, talksFrom, positionFrom, totalSamples, totalBits, Numbered, JustAfter}
 
 -- the bits of an item
 abbrev pub width : Form → Item → ℕ
@@ -148,6 +148,11 @@ module _ (F : Form) where
       due-first F at n i is (omega (arith, e, end-after F at (i ∷ is)))
       ∙ ap (λ (js : List Item). i ∷ js) (all-due d (at + lasting F i) n (omega (arith, e)))
 
+  -- and the position is past their bits
+  past-all : {is : List Item} → Ended (itemCode F) is → (at start end n : ℕ) → endFrom F at is ≤ n
+      → positionFrom F at start end is n ≡ start + totalBits F is
+  past-all d at start end n h = rw (has-stop d, all-due d at n h)
+
 pub numbered : Numbered
 unfolding endFrom
 numbered F keeps js e =
@@ -160,4 +165,4 @@ numbered F keeps js e =
     }
 
 pub just-after : JustAfter
-just-after F start end is d n h = rw (has-stop d, all-due F d 1 n h)
+just-after F start end is d n h = past-all F d 1 start end n h

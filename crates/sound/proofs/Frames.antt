@@ -39,6 +39,7 @@ targets-ranges v Silence proper h = record { energy = nought; pitch = h .pitch; 
 targets-ranges v Stop proper h = record { energy = nought; pitch = h .pitch; k = h .k }
 targets-ranges v (Repeat e p) (fit, kind) h = record { energy = v .energy e (kind .1); pitch = v .pitch p (fit .1 .1 .0); k = h .k }
 targets-ranges v (Unvoiced e k1 k2 k3 k4) (fit, kind) h =
-    record { energy = search (v .energy); pitch = nought; k = ten _ refl (search (v .k, nought) depth 12) }
+    let silent : Between 0 1023 (pos 0) = nought in
+    record { energy = search (v .energy); pitch = silent; k = ten _ refl (search (v .k, nought) depth 12) }
 targets-ranges v (Voiced e p k1 k2 k3 k4 k5 k6 k7 k8 k9 k10) (fit, kind) h =
     record { energy = v .energy e (kind .1); pitch = v .pitch p (fit .1 .1 .0); k = ten _ refl (search (v .k) depth 12) }

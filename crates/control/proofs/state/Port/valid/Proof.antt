@@ -6,4 +6,4 @@ use Rattle.control.proofs.state.Port.valid.Tie as tie
 pub valid-spec : {M : Type 1} → statement M
 valid-spec =
     tie.close (tie.spec (λ c κs. search needs)
-    (λ c. cc))
+    (λ c. rw (c .before .before .before .is-idle .ensures)))
