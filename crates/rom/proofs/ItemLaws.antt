@@ -16,8 +16,14 @@ pub has-stop : {C : Code} {fs : List (C .Item)} → Ended C fs → hasStop C fs 
 has-stop (last t) = rw t
 has-stop (more t d) = rw t (has-stop d)
 
+-- items stand within the image
+pub there-inside : (C : Code) (s : List ℕ) (at : ℕ) (fs : List (C .Item)) → There C s at fs → at ≤ 8 * length s
+there-inside C s at fs (phrase p) = omega (arith, begins-room s at (bitsAll C fs) (p .encoded .begins))
+there-inside C s at fs (none n l) = omega (arith, begins-room s at (bitsAll C fs) (l .encoded .begins))
+
 module _ (C : Code) (s : List ℕ) (read : ℕ → ItemAnswer (C .Item)) (lawful : Lawful C s read) where
-  next-in : (at : ℕ) {f : C .Item} {n : ℕ} → read at ≡ whole f n → n ≤ 8 * length s
+  -- an item that is read ends in the image
+  pub next-in : (at : ℕ) {f : C .Item} {n : ℕ} → read at ≡ whole f n → n ≤ 8 * length s
   next-in at {f} {n} e = let r = lawful .law at f n .0 e in omega (arith, r .2, begins-room s at (C .bits f) (r .1))
 
   one-each : (fs : List (C .Item)) → length fs ≤ length (bitsAll C fs)

@@ -7,6 +7,7 @@ pub mod Taking
 pub mod Encoding
 pub mod CentralLaw
 pub mod ItemLaws
+pub mod ItemWalk
 pub mod FrameCode
 pub mod WholeFrame
 pub mod Walking

@@ -9,7 +9,7 @@ use Rattle.rom.specs.Bits.{digits, Begins}
 use Rattle.rom.specs.Frames.{bitsOf}
 use Rattle.rom.specs.Items.{whole}
 use Rattle.rom.specs.Prefix.{prefixedCode, withPrefix, readPrefixed}
-use Rattle.rom.specs.Theorems.{PrefixedLaw, PrefixedRead}
+use Rattle.rom.specs.Theorems.{PrefixedLaw, PrefixedRead, PrefixedUnique}
 use Rattle.rom.specs.declared.frames.Frame.{Frame}
 use Rattle.rom.specs.declared.reader.FrameAnswer.{FrameAnswer}
 use Rattle.rom.specs.declared.reader.FrameAnswer.the-variants.{Whole, Cut}
@@ -18,6 +18,7 @@ use Rattle.rom.proofs.Encoding.{length-digits, digits-field, field-digi
 use Rattle.rom.proofs.CentralLaw.{central-law}
 use Rattle.rom.proofs.FrameCode.{four-bits}
 use Rattle.rom.proofs.ItemLaws.{there-read}
+use Rattle.rom.proofs.ItemWalk.{one-phrase}
 
 is-whole : {q : ℕ} {t : FrameAnswer} {i : ℕ × Frame} {n : ℕ} → withPrefix q t ≡ whole i n → (q ≡ i .0) × (t ≡ Whole (i .1) n)
 is-whole {q} {t = Whole g m} {i} {n} e =
@@ -57,3 +58,6 @@ prefixed-law Q P s = record {
 
 pub prefixed-read : PrefixedRead
 prefixed-read Q P s at fs h = there-read (prefixedCode Q P) s _ (prefixed-law Q P s) at h fs
+
+pub prefixed-unique : PrefixedUnique
+prefixed-unique Q P s a = one-phrase (prefixedCode Q P) s _ (prefixed-law Q P s) a

@@ -77,3 +77,8 @@ module _ (C : Code) where
   abbrev pub hasStop : List (C .Item) → Bool
   hasStop [] = false
   hasStop (f ∷ fs) = C .stops f || hasStop fs
+
+-- the sum of a number of each item of a list
+abbrev pub sumOf : {A : Type 0} → (A → ℕ) → List A → ℕ
+sumOf of [] = 0
+sumOf of (i ∷ is) = of i + sumOf of is

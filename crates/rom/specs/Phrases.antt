@@ -59,6 +59,10 @@ walkedOver P fs = cond (hasStop (frameCode P) fs) (walkAccepted (length (bitsAll
 unfoldable pub walkOf : ℕ → List ℕ → ℕ → Walked
 walkOf P s a = unlessFault (imageFault s (leb (length s) a)) walkRefused (walkedOver P (framesAt P s a))
 
--- the part of the image from a through the byte with the stop's last bit, empty where the walk is refused
+-- the part of the image from a on that holds `bits` bits, through the byte with the last of them, empty where the walk is refused
+abbrev pub partOf : List ℕ → ℕ → ℕ → ℕ → List ℕ
+partOf s a refusal bits = cond (eqb refusal TAKEN) (take ((bits + 7) / 8) (drop a s)) []
+
+-- the phrase's part
 unfoldable pub phraseOf : ℕ → List ℕ → ℕ → List ℕ
-phraseOf P s a = let w = walkOf P s a in cond (eqb (w .refusal) TAKEN) (take ((w .bits + 7) / 8) (drop a s)) []
+phraseOf P s a = let w = walkOf P s a in partOf s a (w .refusal) (w .bits)

@@ -10,7 +10,7 @@ use Rattle.base.specs.Refusals.{TAKEN, NO-PHRASE}
 use Rattle.rom.specs.Bits.{imageValid, Begins}
 use Rattle.rom.specs.Frames.{Proper, bitsOf}
 use Rattle.rom.specs.Reader.{frameAt}
-use Rattle.rom.specs.Items.{Lawful, There, bitsAll, itemsFrom}
+use Rattle.rom.specs.Items.{Lawful, Phrase, There, bitsAll, itemsFrom}
 use Rattle.rom.specs.Phrases.{frameCode, PhraseAt, FramesThere, framesAt, walkAccepted, walkRefused, walkOf}
 use Rattle.rom.specs.Prefix.{prefixedCode, readPrefixed}
 use Rattle.rom.specs.declared.frames.Frame.{Frame}
@@ -59,3 +59,9 @@ abbrev pub PrefixedRead : Type 0
 PrefixedRead =
     (Q P : ℕ) (s : List ℕ) (at : ℕ) (fs : List (ℕ × Frame)) → at ≤ 8 * length s
     → There (prefixedCode Q P) s at fs ↔ (itemsFrom (prefixedCode Q P) (readPrefixed Q P s) at (8 * length s) ≡ fs)
+
+-- And no two phrases of them begin at an address: two have the same prefixes, kinds and indexes.
+abbrev pub PrefixedUnique : Type 0
+PrefixedUnique =
+    (Q P : ℕ) (s : List ℕ) (a : ℕ) (is js : List (ℕ × Frame)) → Phrase (prefixedCode Q P) s (8 * a) is → Phrase (prefixedCode Q P) s (8 * a) js
+    → is ≡ js

@@ -103,7 +103,7 @@ pub(crate) const NARROW: usize = 25;
 pub(crate) const WIDE: usize = 57;
 
 // The narrow window at bit `at`: the number in the 25 bits from there on, the first the most significant.
-pub(crate) fn narrow_at(s: &[u8], at: usize) -> u64
+pub fn narrow_at(s: &[u8], at: usize) -> u64
     requires { ⌜ at ≤ 2 ^ 32 ⌝ }
     ensures { λ r. ⌜ Window narrow (now (s .entry)) at r ⌝ }
 {
@@ -111,7 +111,7 @@ pub(crate) fn narrow_at(s: &[u8], at: usize) -> u64
 }
 
 // The wide window at bit `at`.
-pub(crate) fn wide_at(s: &[u8], at: usize) -> u64
+pub fn wide_at(s: &[u8], at: usize) -> u64
     requires { ⌜ at ≤ 2 ^ 32 ⌝ }
     ensures { λ r. ⌜ Window wide (now (s .entry)) at r ⌝ }
 {

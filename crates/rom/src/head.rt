@@ -15,7 +15,7 @@ pub struct Head {
 }
 
 // The head of the frame whose first bit is that of a narrow window.
-pub(crate) fn head_of(window: u64, pitch_bits: usize) -> Head
+pub fn head_of(window: u64, pitch_bits: usize) -> Head
     requires { ⌜ «pitch_bits» ≤ 8 ⌝ }
     ensures { λ r. ⌜ ((s : List ℕ) (at : ℕ) → Window narrow s at window → r ≡ headAt «pitch_bits» s at) ⌝ }
 {

@@ -1,10 +1,10 @@
 // The phrase walk over an image: its numbers, and the part of the image that the phrase takes.
 ghost use mathlib.Core.Path.{_≡_};
-ghost use Prim.Native.Nat.{_*_, _≤_};
+ghost use Prim.Native.Nat.{_+_, _*_, _≤_};
 ghost use lib.ListN.{length};
 ghost use Rattle.rom.specs.Bits.{imageLimit};
 ghost use Rattle.rom.specs.Frames.{pitchBits};
-ghost use Rattle.rom.specs.Phrases.{walkRefused, walkAccepted, framesFrom, walkedOver, walkOf, phraseOf};
+ghost use Rattle.rom.specs.Phrases.{walkRefused, walkAccepted, framesFrom, walkedOver, walkOf, partOf, phraseOf};
 use crate::bits::image_fault;
 use crate::bits::narrow_at;
 use crate::bits::wide_at;
@@ -29,7 +29,8 @@ pub struct Walked {
     pub samples: Samples,
 }
 
-fn refuse(refusal: u8) -> Walked
+// A refused walk.
+pub fn refuse(refusal: u8) -> Walked
     ensures { λ r. ⌜ r ≡ walkRefused refusal ⌝ }
 {
     Walked {
@@ -89,10 +90,10 @@ pub fn walk(image: &[u8], address: usize) -> Walked
     walk_from(image, 8 * address, PITCH_BITS)
 }
 
-// The part that the phrase at a byte address takes, by the number and bits of its walk, so that a caller that has them walks once.
+// The part of an image from a byte address on that a phrase of `bits` bits takes, by the number of its walk.
 pub fn part_of(image: &[u8], address: usize, refusal: u8, bits: usize) -> &[u8]
-    requires { ⌜ (refusal ≡ walkOf pitchBits (now image) address .refusal) × (bits ≡ walkOf pitchBits (now image) address .bits) ⌝ }
-    ensures { λ r. ⌜ now r ≡ phraseOf pitchBits (now (image .entry)) address ⌝ }
+    requires { ⌜ (refusal ≡ 0 → (8 * address + bits ≤ 8 * length (now image)) × (length (now image) ≤ imageLimit)) ⌝ }
+    ensures { λ r. ⌜ now r ≡ partOf (now (image .entry)) address refusal bits ⌝ }
 {
     if refusal == TAKEN {
         let end = address + (bits + 7) / 8;

@@ -71,13 +71,7 @@ fn frame_of(kind: Kind, head: Head, window: u64, pitch_bits: usize) -> Frame
 
 // The frame at bit `at` with its head and its wide window, and the bit after it, where the slice has `end` bits. The head is a number
 // of its own so that a caller which asks for no K, as the walk, costs no more than the head.
-pub(crate) fn frame_in(
-    head: Head,
-    window: u64,
-    at: usize,
-    end: usize,
-    pitch_bits: usize,
-) -> FrameAnswer
+pub fn frame_in(head: Head, window: u64, at: usize, end: usize, pitch_bits: usize) -> FrameAnswer
     requires { ⌜ («pitch_bits» ≤ 8) × (at < 2 ^ 32 - 64) ⌝ }
     ensures { λ r. ⌜ ((s : List ℕ) → head ≡ headAt «pitch_bits» s at → Window wide s at window → end ≡ 8 * length s → r ≡ frameAt «pitch_bits» s at) ⌝ }
 {
