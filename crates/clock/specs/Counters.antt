@@ -3,6 +3,7 @@ use mathlib.Core.Bool.{Bool, true, false, not, cond, _&&_, _||_}
 use Prim.Native.Nat.{ℕ, _-_}
 use lib.Dec.{eqb, leb}
 use Rattle.base.specs.Units.{samples, intervals, samplesPerInterval, wholeIntervals, withinInterval, withinFrame, samplesSum, intervalsSum}
+use Rattle.base.specs.declared.units.Intervals.{Intervals}
 use Rattle.base.specs.declared.units.Samples.{Samples}
 use Rattle.clock.specs.declared.Clock.{Clock}
 
@@ -13,6 +14,10 @@ stopped t = record { sounding = false; sample = samples 0; interval = intervals 
 -- and of one that starts to sound
 abbrev pub started : Clock → Clock
 started t = record { sounding = true; sample = samples 0; interval = intervals 0 }
+
+-- the counters where a frame begins at an interval, and so skips those before it
+abbrev pub begun : Intervals → Clock → Clock
+begun i t = record { sounding = t .sounding; sample = t .sample; interval = i }
 
 -- power-up: silent
 abbrev pub powerUpClock : Clock

@@ -2,7 +2,7 @@
 ghost use mathlib.Core.Path.{_≡_};
 ghost use Prim.Native.Nat.{_≤_};
 ghost use Rattle.base.specs.Units.{samplesPerInterval};
-ghost use Rattle.clock.specs.Counters.{powerUpClock, stopped, started, countedBy, counted, intervalBegins, frameBegins, leftOfInterval, lastSample, lastInterval, clockValid};
+ghost use Rattle.clock.specs.Counters.{powerUpClock, stopped, started, begun, countedBy, counted, intervalBegins, frameBegins, leftOfInterval, lastSample, lastInterval, clockValid};
 use base::units::Frames;
 use base::units::Intervals;
 use base::units::Samples;
@@ -46,6 +46,15 @@ impl Clock {
         clock.sounding = true;
         clock.sample = Samples::of(0);
         clock.interval = Intervals::of(0);
+        clock
+    }
+
+    // A frame begins at this interval, and so skips those before it.
+    pub fn begin_at(self, interval: Intervals) -> Clock
+        ensures { λ r. ⌜ r ≡ begun interval self ⌝ }
+    {
+        let mut clock = self;
+        clock.interval = interval;
         clock
     }
 

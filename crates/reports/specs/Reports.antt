@@ -8,7 +8,7 @@ use Rattle.rom.specs.declared.frames.Frame.{Frame}
 use Rattle.rom.specs.declared.frames.Frame.the-variants.{Stop}
 use Rattle.rom.specs.declared.frames.MaybeFrame.{MaybeFrame}
 use Rattle.rom.specs.declared.frames.MaybeFrame.the-variants.{Some, None}
-use Rattle.reports.specs.Types.{Report, NoReport, FrameReport, StopReport, RanOut, Action, Silent, Rest, Begin, Interpolate, Continue}
+use Rattle.reports.specs.Types.{Details, Report, NoReport, FrameReport, StopReport, RanOut, Action, Silent, Rest, Begin, Interpolate, Continue}
 
 -- each step reports one of: nothing, frame, stop, ran out, with the numbers 0, 1, 2, 3
 abbrev pub reportNumber : Report → ℕ
@@ -31,6 +31,14 @@ reportNumbers r = reportNumber r ∷ numbersOf (reportFrame r)
 -- a frame that begins is reported as frame or stop
 abbrev pub frameReport : Frame → Report
 frameReport f = cond (isStop f) StopReport (FrameReport f)
+
+-- with nothing besides
+abbrev pub noDetails : Details
+noDetails = record { rate = 0 }
+
+-- with a frame's rate bits
+abbrev pub rated : ℕ → Details
+rated q = record { rate = q }
 
 -- what the sound counts on: a frame that begins is one of the table, and an interval is one of a frame's
 abbrev pub Playable : ℕ → Action → Type 0

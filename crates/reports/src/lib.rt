@@ -1,6 +1,6 @@
 // What a sample step reports, and what it asks of the sound.
 ghost use mathlib.Core.Path.{_≡_};
-ghost use Rattle.reports.specs.Reports.{reportNumber, reportFrame, frameReport};
+ghost use Rattle.reports.specs.Reports.{reportNumber, reportFrame, frameReport, noDetails, rated};
 use base::units::Intervals;
 use rom::frames::Frame;
 use rom::frames::MaybeFrame;
@@ -12,6 +12,26 @@ pub enum Report {
     Frame(Frame),
     Stop,
     RanOut,
+}
+
+// What a step gives besides its report; zeros where nothing applies. Later changes add their numbers here.
+pub struct Details {
+    // The rate bits of the frame reported, where it has any.
+    pub rate: u8,
+}
+
+impl Details {
+    pub fn none() -> Details
+        ensures { λ r. ⌜ r ≡ noDetails ⌝ }
+    {
+        Details { rate: 0 }
+    }
+
+    pub fn rated(rate: u8) -> Details
+        ensures { λ r. ⌜ r ≡ rated rate ⌝ }
+    {
+        Details { rate }
+    }
 }
 
 // What a step asks of the sound.
