@@ -9,7 +9,7 @@ use borrow.Author.Tests.{eqb-true, eqb-false}
 use lib.Dec.{eqb}
 use lib.ListN.{length}
 use Rattle.base.proofs.Booleans.{either-way, cond-true, cond-false}
-use Rattle.schedule.specs.Form.{Form, KeepsSome, Item}
+use Rattle.rates.specs.Form.{Form, KeepsSome, Item}
 use Rattle.schedule.specs.Types.{Told, Speech}
 use Rattle.schedule.specs.Calls.{Call, step, run, read, write, Answer, Device, Table, chipAfter, refusalOf, byteOf, toldBy, answerOf, answersOf, stepsIn, writeDue, refusalDue, byteDue, toldDue, answerDue, answersDue, Refused, WritesRefused, Speaks, AnswersDue}
 use Rattle.schedule.proofs.Chain.{Chain, chain-there}

@@ -8,16 +8,12 @@ use native.Mathlib.Omega.{arith}
 use lib.ListN.{length}
 use Rattle.base.proofs.Booleans.{by-test}
 use Rattle.rom.specs.Frames.{isStop}
-use Rattle.rom.specs.Items.{Code, ItemAnswer, whole, cut, bitsAll, itemsFrom, itemsOf, There, phrase, none}
+use Rattle.rom.specs.Items.{ItemAnswer, whole, cut, itemsFrom, itemsOf, There}
 use Rattle.rom.proofs.Encoding.{begins-room}
+use Rattle.rom.proofs.ItemLaws.{there-inside}
 use Rattle.rom.proofs.Prefixed.{prefixed-law, prefixed-read}
-use Rattle.schedule.specs.Form.{Form, Item, itemCode, readItem}
+use Rattle.rates.specs.Form.{Form, Item, itemCode, readItem}
 use Rattle.schedule.proofs.Due.{width}
-
--- items stand within the image
-pub there-inside : (C : Code) (image : List ℕ) (start : ℕ) (fs : List (C .Item)) → There C image start fs → start ≤ 8 * length image
-there-inside C image start fs (phrase p) = omega (arith, begins-room image start (bitsAll C fs) (p .encoded .begins))
-there-inside C image start fs (none n l) = omega (arith, begins-room image start (bitsAll C fs) (l .encoded .begins))
 
 -- the items `is` are read from bit p on, up to a stop or to where the bits end
 pub data Chain (F : Form) (image : List ℕ) : ℕ → List Item → Type 0 where

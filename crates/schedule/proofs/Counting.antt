@@ -7,11 +7,10 @@ use Prim.Native.Nat.{ℕ, zero, suc, _+_, _*_, _<_}
 use native.Mathlib.Omega.{arith}
 use borrow.Author.Tests.{eq-eqb, ne-eqb, eqb-true}
 use lib.Dec.{eqb}
-use Rattle.base.specs.Units.{frames, samplesPerInterval, intervalsPerFrame, intervalsOf, samplesOf}
+use Rattle.base.specs.Units.{frames, intervals, samplesPerInterval, intervalsPerFrame, intervalsOf, samplesOf}
 use Rattle.base.proofs.Booleans.{either-way}
-use Rattle.clock.specs.Counters.{started, counted, frameBegins}
+use Rattle.clock.specs.Counters.{started, begun, counted, frameBegins}
 use Rattle.schedule.specs.Types.{Clock}
-use Rattle.schedule.specs.Speech.{begun}
 
 -- the samples of a whole frame
 abbrev pub wholeFrame : ℕ
@@ -46,7 +45,7 @@ module _ (t : Clock) where
   left-on {l = suc l} (some o s i p e) = some {l = l} o (omega arith) (omega arith) (omega arith) (omega arith)
 
   -- the first sample of a frame that skips k intervals
-  pub left-begun : (k l : ℕ) → k < intervalsPerFrame → samplesPerInterval * k + suc l ≡ wholeFrame → Left t 0 → Left (counted (begun k t)) l
+  pub left-begun : (k l : ℕ) → k < intervalsPerFrame → samplesPerInterval * k + suc l ≡ wholeFrame → Left t 0 → Left (counted (begun (intervals k) t)) l
   left-begun k zero h e (none o s i) = absurd (omega arith)
   left-begun k (suc l) h e (none o s i) = some {l = l} o (omega arith) (omega arith) (omega arith) (omega arith)
 

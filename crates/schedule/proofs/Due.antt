@@ -13,8 +13,9 @@ use Rattle.base.proofs.Booleans.{by-test, neither}
 use Rattle.rom.specs.Frames.{isStop}
 use Rattle.rom.specs.Items.{bitsAll, hasStop, Ended, last, more}
 use Rattle.rom.proofs.ItemLaws.{has-stop}
-use Rattle.schedule.specs.Form.{Form, Item, itemCode, lasting, KeepsSome}
-use Rattle.schedule.specs.Types.{NoReport, RanOut, tells}
+use Rattle.rates.specs.Form.{Form, Item, itemCode, KeepsSome}
+use Rattle.schedule.specs.Form.{lasting}
+use Rattle.schedule.specs.Types.{NoReport, RanOut, tellsRated, tells}
 use Rattle.schedule.specs.Schedule.{dueReport, dueFrom, endFrom, toldFrom, talksFrom, positionFrom, totalSamples, totalBits, Numbered, JustAfter}
 
 -- the bits of an item
@@ -62,7 +63,7 @@ module _ (F : Form) where
   -- ---- from its step on
 
   module _ (at n : ℕ) (i : Item) (is : List Item) where
-    pub told-due : n ≡ at → toldFrom F at (i ∷ is) n ≡ tells (dueReport (i .1))
+    pub told-due : n ≡ at → toldFrom F at (i ∷ is) n ≡ tellsRated (i .0) (dueReport (i .1))
     unfolding toldFrom
     told-due e = rw (eq-eqb n at e)
 

@@ -8,14 +8,15 @@ use native.Mathlib.Nat.{add-zero, zero-add}
 use native.Mathlib.Omega.{arith}
 use lib.ListN.{length}
 use Rattle.base.proofs.Booleans.{cond-true, cond-false}
-use Rattle.clock.specs.Counters.{frameBegins, counted}
+use Rattle.clock.specs.Counters.{begun, frameBegins, counted}
 use Rattle.base.specs.Steps.{stateAfter}
-use Rattle.base.specs.Units.{samplesPerInterval}
+use Rattle.base.specs.Units.{intervals, samplesPerInterval}
 use Rattle.rom.specs.Frames.{isStop}
 use Rattle.rom.specs.Items.{ItemAnswer, whole, cut}
-use Rattle.schedule.specs.Form.{Form, readItem, KeepsSome, Item, lasting}
+use Rattle.rates.specs.Form.{Form, readItem, KeepsSome, Item}
+use Rattle.schedule.specs.Form.{lasting}
 use Rattle.schedule.specs.Types.{Speech, Clock, Spoken}
-use Rattle.schedule.specs.Speech.{silent, goesOn, rests as rested, byAnswer, spoken, talkingFrom, begun, speechStep, KeepsSchedule}
+use Rattle.schedule.specs.Speech.{silent, goesOn, rests as rested, byAnswer, spoken, talkingFrom, speechStep, KeepsSchedule}
 use Rattle.schedule.specs.Schedule.{toldFrom}
 use Rattle.schedule.proofs.Due.{width, told-ahead, told-due, told-more, told-stop, told-out, told-after-out}
 use Rattle.schedule.proofs.Chain.{Chain, stop, more, end, chain-there}
@@ -61,7 +62,7 @@ module _ (F : Form) (keeps : KeepsSome F) where
   record Begun (i : Item) (t : Clock) : Type 0 where
     left : ℕ
     lasting-is : suc left ≡ lasting F i
-    counts : Left (counted (begun (F .skips (i .0)) t)) left
+    counts : Left (counted (begun (intervals (F .skips (i .0))) t)) left
 
   begins : (i : Item) (t : Clock) → Left t 0 → Begun i t
   begins i t h =

@@ -1,6 +1,5 @@
 pub mod Due
 pub mod Chain
-pub mod Plain
 pub mod Counting
 pub mod Progress
 pub mod Keeping

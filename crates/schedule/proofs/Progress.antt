@@ -6,7 +6,8 @@ use mathlib.Core.List.{List, [], _∷_}
 use Prim.Native.Nat.{ℕ, _+_, _≤_}
 use native.Mathlib.Omega.{arith}
 use Rattle.rom.specs.Frames.{isStop}
-use Rattle.schedule.specs.Form.{Form, Item, lasting}
+use Rattle.rates.specs.Form.{Form, Item}
+use Rattle.schedule.specs.Form.{lasting}
 use Rattle.schedule.specs.Types.{Clock, Speech}
 use Rattle.schedule.specs.Schedule.{talksFrom, positionFrom}
 use Rattle.schedule.proofs.Counting.{Left}

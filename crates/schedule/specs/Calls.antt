@@ -8,7 +8,7 @@ use lib.ListN.{length}
 use Rattle.base.specs.Refusals.{TAKEN}
 use Rattle.base.specs.Steps.{stateAfter}
 use Rattle.rom.specs.Items.{There}
-use Rattle.schedule.specs.Form.{Form, KeepsSome, Item, itemCode}
+use Rattle.rates.specs.Form.{Form, KeepsSome, Item, itemCode}
 use Rattle.schedule.specs.Types.{Clock, NoReport, Told, tells, Speech}
 use Rattle.schedule.specs.Schedule.{toldAt, talksAfter, positionAfter}
 use Rattle.schedule.specs.Speech.{talkingFrom, spoken}

@@ -9,8 +9,9 @@ use lib.ListN.{length}
 use Rattle.rom.specs.Frames.{isStop}
 use Rattle.rom.specs.Items.{bitsAll, hasStop, Ended}
 use Rattle.rom.specs.declared.frames.Frame.{Frame}
-use Rattle.schedule.specs.Form.{Form, KeepsSome, Item, itemCode, lasting}
-use Rattle.schedule.specs.Types.{Report, NoReport, FrameReport, StopReport, RanOut, Told, tells}
+use Rattle.rates.specs.Form.{Form, KeepsSome, Item, itemCode}
+use Rattle.schedule.specs.Form.{lasting}
+use Rattle.schedule.specs.Types.{Report, NoReport, FrameReport, StopReport, RanOut, Told, tellsRated, tells}
 
 -- a due frame is reported as frame or stop
 abbrev pub dueReport : Frame → Report
@@ -38,11 +39,11 @@ module _ (F : Form) where
   endFrom at [] = at
   endFrom at (i ∷ is) = cond (isStop (i .1)) at (endFrom (at + lasting F i) is)
 
-  -- what step n gives: the frame due at it, as frame or stop, or ran out with no frame, else nothing
+  -- what step n gives: the frame due at it, as frame or stop, with its rate bits, or ran out with no frame, else nothing
   unfoldable pub toldFrom : ℕ → List Item → ℕ → Told
   toldFrom at [] n = tells (cond (eqb n at) RanOut NoReport)
   toldFrom at (i ∷ is) n =
-      cond (eqb n at) (tells (dueReport (i .1))) (cond (isStop (i .1)) (tells NoReport) (toldFrom (at + lasting F i) is n))
+      cond (eqb n at) (tellsRated (i .0) (dueReport (i .1))) (cond (isStop (i .1)) (tells NoReport) (toldFrom (at + lasting F i) is n))
 
   -- after n steps the device talks: exactly before the step of the stop or of running out
   abbrev pub talksFrom : ℕ → List Item → ℕ → Bool
@@ -80,7 +81,7 @@ module _ (F : Form) where
   -- after the items js, the next is due at the step numbered 1 plus their samples, and is the end if it is a stop; without a
   -- next, running out is due there, and is the end
   pub record DueAfter (js : List Item) : Type 0 where
-    pub frame : (i : Item) (ks : List Item) → toldAt (js ++ (i ∷ ks)) (1 + totalSamples js) ≡ tells (dueReport (i .1))
+    pub frame : (i : Item) (ks : List Item) → toldAt (js ++ (i ∷ ks)) (1 + totalSamples js) ≡ tellsRated (i .0) (dueReport (i .1))
     pub stop : (i : Item) (ks : List Item) → isStop (i .1) ≡ true → endStep (js ++ (i ∷ ks)) ≡ 1 + totalSamples js
     pub runs-out : toldAt js (1 + totalSamples js) ≡ tells RanOut
     pub end : endStep js ≡ 1 + totalSamples js

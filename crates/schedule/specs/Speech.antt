@@ -9,10 +9,10 @@ use Rattle.base.specs.Steps.{stateAfter}
 use Rattle.base.specs.Units.{intervals}
 use Rattle.rom.specs.Frames.{isStop}
 use Rattle.rom.specs.Items.{ItemAnswer, whole, cut, There}
-use Rattle.clock.specs.Counters.{stopped, started, counted, frameBegins}
+use Rattle.clock.specs.Counters.{stopped, started, begun, counted, frameBegins}
 use Rattle.reports.specs.Reports.{frameReport}
-use Rattle.schedule.specs.Form.{Form, KeepsSome, Item, itemCode, readItem}
-use Rattle.schedule.specs.Types.{Clock, NoReport, RanOut, Told, tells, Speech, Spoken}
+use Rattle.rates.specs.Form.{Form, KeepsSome, Item, itemCode, readItem}
+use Rattle.schedule.specs.Types.{Clock, NoReport, RanOut, Told, tellsRated, tells, Speech, Spoken}
 use Rattle.schedule.specs.Schedule.{toldAt, talksAfter, positionAfter}
 
 -- speech that begins at a bit: TS rises and the sound starts
@@ -37,15 +37,11 @@ goesOn s = quiet s (counted (s .clock))
 abbrev pub rests : Speech → Spoken
 rests s = quiet s (stopped (s .clock))
 
--- the counters where a frame begins that skips n intervals
-abbrev pub begun : ℕ → Clock → Clock
-begun n t = record { sounding = t .sounding; sample = t .sample; interval = intervals n }
-
 -- a frame is taken, and the position is past it; a stop ends the talk, and its frame still sounds
 abbrev pub took : Form → Speech → Item → ℕ → Spoken
 took F s i next = record {
-  speech = record { talking = not (isStop (i .1)); position = next; clock = counted (begun (F .skips (i .0)) (s .clock)) };
-  told = tells (frameReport (i .1));
+  speech = record { talking = not (isStop (i .1)); position = next; clock = counted (begun (intervals (F .skips (i .0))) (s .clock)) };
+  told = tellsRated (i .0) (frameReport (i .1));
 }
 
 -- running out: the position goes to the image's end, or stays if past it; sound at rest at once

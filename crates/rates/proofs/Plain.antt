@@ -17,10 +17,9 @@ use Rattle.rom.specs.declared.frames.Frame.{Frame}
 use Rattle.rom.specs.declared.reader.FrameAnswer.{FrameAnswer}
 use Rattle.rom.specs.declared.reader.FrameAnswer.the-variants.{Whole, Cut}
 use Rattle.rom.proofs.FrameCode.{frames-lawful}
-use Rattle.rom.proofs.ItemLaws.{there-read}
+use Rattle.rom.proofs.ItemLaws.{there-inside, there-read}
 use Rattle.rom.proofs.Prefixed.{prefixed-read}
-use Rattle.schedule.specs.Form.{plainForm, KeepsSome, Item, plain, itemCode, readItem}
-use Rattle.schedule.proofs.Chain.{there-inside}
+use Rattle.rates.specs.Form.{plainForm, KeepsSome, Item, plain, itemCode, readItem}
 
 module _ (P : ℕ) where
   pub plain-keeps : KeepsSome (plainForm P)
@@ -44,7 +43,7 @@ module _ (P : ℕ) where
 
   module _ (s : List ℕ) where
     -- and the same are read
-    plain-from : (n at : ℕ) → itemsFrom (itemCode (plainForm P)) (readItem (plainForm P) s) at n ≡ map plain (framesFrom P s at n)
+    pub plain-from : (n at : ℕ) → itemsFrom (itemCode (plainForm P)) (readItem (plainForm P) s) at n ≡ map plain (framesFrom P s at n)
     unfolding itemsFrom
     plain-from zero at = refl
     plain-from (suc n) at = rw plain-read (go (plain-from n) (frameAt P s at))

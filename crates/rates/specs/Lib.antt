@@ -1,0 +1,4 @@
+pub mod Rates
+pub mod Form
+pub mod Walks
+pub mod Theorems
