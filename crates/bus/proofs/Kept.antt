@@ -1,5 +1,5 @@
--- What a taken byte finds and does: a valid control stays valid under it, and a sound that is not put at rest sounds on or stays
--- silent.
+-- What a taken byte finds and does: a valid control stays valid under it, a device stays of its kind, and a sound that is not put at
+-- rest sounds on or stays silent.
 -- Assumes nothing.
 use mathlib.Core.Path.{_≡_, sym, ap, _∙_, refl, subst}
 use mathlib.Core.Bool.{true, false, true≢false}
@@ -11,9 +11,10 @@ use lib.Dec.{eqb}
 use lib.ListN.{length, drop, length-set}
 use lib.Seq.{drop-drop, drop-set-lt}
 use Rattle.fifo.specs.Buffer.{fifoSize, appended}
+use Rattle.control.specs.Device.{deviceValid, atPowerUp, loadedRate, SameKind}
 use Rattle.control.specs.Validity.{mostLevel, controlValid, speaks, leastLevel, mostUsed, fifoValid, portValid}
 use Rattle.control.specs.Commands.{waits, commandOf, beyondAt, beyond}
-use Rattle.control.proofs.Ranges.{control-ranges, mode-ranges, ControlRanges, control-in-ranges}
+use Rattle.control.proofs.Ranges.{control-ranges, mode-ranges, ControlRanges, control-in-ranges, power-up-device, loaded-device}
 use Rattle.base.proofs.Booleans.{by-test}
 use Rattle.rom.specs.Bits.{imageLimit}
 use Rattle.rom.proofs.Checks.{valid-length}
@@ -21,11 +22,11 @@ use Rattle.address.specs.Addresses.{positionLimit, addressLimit, nibbles, withN
 use Rattle.address.proofs.Ranges.{address-ranges, address-in-range}
 use Rattle.clock.specs.Counters.{clockValid}
 use Rattle.fifo.proofs.Ranges.{fifo-in-range, zero-from}
-use Rattle.control.specs.State.{startLevel, powerUpControl}
-use Rattle.bus.specs.Types.{Mode, Idle, Rom, Waiting, External, Control, Command, Accepted, Fifo, Nothing, ReadByte, ReadAndBranch, LoadAddress, Speak, SpeakExternal, Reset}
+use Rattle.control.specs.State.{startLevel}
+use Rattle.bus.specs.Types.{Mode, Idle, Rom, Waiting, External, Control, Command, Accepted, Device, Tms5220, Tms5220C, Fifo, LoadFrameRate, ReadByte, ReadAndBranch, LoadAddress, Speak, SpeakExternal, Reset}
 use Rattle.bus.specs.Accept.{acceptedIn, accepted, buffered}
-use Rattle.bus.specs.Commands.{obeyed}
-use Rattle.bus.specs.Laws.{AcceptKeepsValid, SoundingKept}
+use Rattle.bus.specs.Commands.{obeyed, reset}
+use Rattle.bus.specs.Laws.{AcceptKeepsValid, KindKept, SoundingKept}
 
 room-in : (m : Mode) (level : ℕ) (c : Command) → level ≤ mostLevel m → waits m level c ≡ false → level < fifoSize
 room-in Idle level c h w = omega arith
@@ -41,8 +42,8 @@ pub in-mode : (image : List ℕ) (k : Control) (b : ℕ) {m : Mode} {r : Accepte
 unfolding accepted
 in-mode image k b e r = r ∙ ap (λ (m : Mode). acceptedIn m image k b) (sym e)
 
-power-up-ranges : ControlRanges powerUpControl
-power-up-ranges = record { address = refl; fifo = refl; port = refl; clock = refl }
+reset-ranges : (k : Control) → ControlRanges (reset k .control)
+reset-ranges k = record { address = refl; fifo = refl; port = refl; clock = refl; device = power-up-device (k .device) }
 
 -- ---- the commands
 
@@ -55,8 +56,8 @@ module _ (image : List ℕ) (small : length image ≤ imageLimit) (k : Control) 
 
   -- what a command leaves is valid part by part
   moved : {d : Control} → (d .address .position ≤ positionLimit) × (d .address .«next_nibble» < nibbles) → fifoValid (d .mode) (d .fifo) ≡ true
-      → portValid (d .mode) (d .port) ≡ true → clockValid (speaks (d .mode)) (d .clock) ≡ true → ControlRanges d
-  moved {d} l f q t = record { address = address-in-range (d .address) (l .0) (l .1); fifo = f; port = q; clock = t }
+      → portValid (d .mode) (d .port) ≡ true → clockValid (speaks (d .mode)) (d .clock) ≡ true → deviceValid (d .device) ≡ true → ControlRanges d
+  moved {d} l f q t v = record { address = address-in-range (d .address) (l .0) (l .1); fifo = f; port = q; clock = t; device = v }
 
   empty : fifoValid Idle (k .fifo) ≡ true
   empty = subst (λ (m : Mode). fifoValid m (k .fifo) ≡ true) idle (r .fifo)
@@ -68,19 +69,19 @@ module _ (image : List ℕ) (small : length image ≤ imageLimit) (k : Control) 
       fifo-in-range _ _ _ (k .fifo) (record { at-least = f .at-least; at-most = omega (arith, f .at-most); used-bits = f .used-bits; size = f .size; clear = f .clear })
 
   obeyed-ranges : (b : ℕ) (c : Command) → beyondAt image (k .address .position) c ≡ false → ControlRanges (obeyed image k b c .control)
-  obeyed-ranges b Nothing h = moved ranges (r .fifo) refl (r .clock)
+  obeyed-ranges b LoadFrameRate h = moved ranges (r .fifo) refl (r .clock) (loaded-device (k .device) b)
   obeyed-ranges b ReadByte h =
       let e = leb-true (k .address .position + 8) (8 * length image) (not-false _ h) in
-      moved (omega (arith, e)) (r .fifo) (rw idle) (r .clock)
+      moved (omega (arith, e)) (r .fifo) (rw idle) (r .clock) (r .device)
   obeyed-ranges b ReadAndBranch h =
       let e = leb-true (k .address .position / 8 + 2) (length image) (not-false _ h) in
-      moved (omega (arith, e)) (r .fifo) refl (r .clock)
+      moved (omega (arith, e)) (r .fifo) refl (r .clock) (r .device)
   obeyed-ranges b LoadAddress h =
-      moved (omega (arith, nibble-small (k .address .position / 8 % addressLimit) (k .address .«next_nibble») (b % 16))) (r .fifo) refl (r .clock)
-  obeyed-ranges b Speak h = moved (omega (arith, ranges)) empty refl refl
+      moved (omega (arith, nibble-small (k .address .position / 8 % addressLimit) (k .address .«next_nibble») (b % 16))) (r .fifo) refl (r .clock) (r .device)
+  obeyed-ranges b Speak h = moved (omega (arith, ranges)) empty refl refl (r .device)
   obeyed-ranges b SpeakExternal h =
-      moved (omega (arith, ranges)) waiting refl (subst (λ (m : Mode). clockValid (speaks m) (k .clock) ≡ true) idle (r .clock))
-  obeyed-ranges b Reset h = power-up-ranges
+      moved (omega (arith, ranges)) waiting refl (subst (λ (m : Mode). clockValid (speaks m) (k .clock) ≡ true) idle (r .clock)) (r .device)
+  obeyed-ranges b Reset h = reset-ranges k
 
 -- ---- bytes for the FIFO
 
@@ -100,12 +101,12 @@ appended-valid m m′ f b h l u v =
 
 module _ (image : List ℕ) (small : length image ≤ imageLimit) (k : Control) (r : ControlRanges k) (b : ℕ) where
   buffered-ranges : fifoValid (k .mode) (appended (k .fifo) b) ≡ true → ControlRanges (buffered k b)
-  buffered-ranges h = record { address = r .address; fifo = h; port = r .port; clock = r .clock }
+  buffered-ranges h = record { address = r .address; fifo = h; port = r .port; clock = r .clock; device = r .device }
 
   accepted-ranges : (m : Mode) → k .mode ≡ m → k .fifo .level < fifoSize → beyond m image (k .address .position) (commandOf b) ≡ false
       → ControlRanges (acceptedIn m image k b .control)
   accepted-ranges Idle e l h = obeyed-ranges image small k r e b (commandOf b) h
-  accepted-ranges Rom e l h = power-up-ranges
+  accepted-ranges Rom e l h = reset-ranges k
   accepted-ranges Waiting e l h =
       let held : fifoValid Waiting (k .fifo) ≡ true = subst (λ (m : Mode). fifoValid m (k .fifo) ≡ true) e (r .fifo) in
       by-test (λ (a : Accepted). ControlRanges (a .control)) (eqb (k .fifo .level + 1) startLevel)
@@ -116,6 +117,7 @@ module _ (image : List ℕ) (small : length image ≤ imageLimit) (k : Control) 
         fifo = appended-valid Waiting External (k .fifo) b held (omega arith) (omega arith) (omega arith);
         port = subst (λ (m : Mode). portValid m (k .port) ≡ true) e (r .port);
         clock = refl;
+        device = r .device;
       })
       (λ t.
       let n = eqb-false (k .fifo .level + 1) startLevel t in
@@ -129,6 +131,37 @@ unfolding accepted
 accept-keeps-valid image k b i v w h =
     control-in-ranges _ (accepted-ranges image (valid-length image i .1) k (control-ranges k v) b (k .mode) refl (room k (commandOf b) v w) h)
 
+-- ---- the device
+
+loaded-kind : (d : Device) (b : ℕ) → SameKind (loadedRate d b) d
+loaded-kind Tms5220 b = refl
+loaded-kind (Tms5220C r) b = refl
+
+reset-kind : (d : Device) → SameKind (atPowerUp d) d
+reset-kind Tms5220 = refl
+reset-kind (Tms5220C r) = refl
+
+module _ (image : List ℕ) (k : Control) (b : ℕ) where
+  obeyed-kind : (c : Command) → SameKind (obeyed image k b c .control .device) (k .device)
+  obeyed-kind LoadFrameRate = loaded-kind (k .device) b
+  obeyed-kind ReadByte = refl
+  obeyed-kind ReadAndBranch = refl
+  obeyed-kind LoadAddress = refl
+  obeyed-kind Speak = refl
+  obeyed-kind SpeakExternal = refl
+  obeyed-kind Reset = reset-kind (k .device)
+
+  accepted-kind : (m : Mode) → SameKind (acceptedIn m image k b .control .device) (k .device)
+  accepted-kind Idle = obeyed-kind (commandOf b)
+  accepted-kind Rom = reset-kind (k .device)
+  accepted-kind Waiting =
+      by-test (λ (a : Accepted). SameKind (a .control .device) (k .device)) (eqb (k .fifo .level + 1) startLevel) (λ t. refl) (λ t. refl)
+  accepted-kind External = refl
+
+pub kind-kept : KindKept
+unfolding accepted
+kind-kept image k b = accepted-kind image k b (k .mode)
+
 -- ---- whether the chip sounds
 
 -- where the sound does not go to rest
@@ -137,7 +170,7 @@ SameSounding k a = a .rests ≡ false → a .control .clock .sounding ≡ k .clo
 
 module _ (image : List ℕ) (k : Control) (b : ℕ) where
   obeyed-sounding : (c : Command) → SameSounding k (obeyed image k b c)
-  obeyed-sounding Nothing h = refl
+  obeyed-sounding LoadFrameRate h = refl
   obeyed-sounding ReadByte h = refl
   obeyed-sounding ReadAndBranch h = refl
   obeyed-sounding LoadAddress h = refl

@@ -4,10 +4,11 @@ use mathlib.Core.Bool.{true, false}
 use mathlib.Core.List.{List}
 use Prim.Native.Nat.{ℕ, _%_}
 use Rattle.rom.specs.Bits.{field}
-use Rattle.bus.specs.Types.{Mode, Rom, Waiting, Port, Control, Command, Nothing, ReadByte, ReadAndBranch, LoadAddress, Speak, SpeakExternal, Reset, Accepted}
+use Rattle.bus.specs.Types.{Mode, Rom, Waiting, Port, Control, Command, LoadFrameRate, ReadByte, ReadAndBranch, LoadAddress, Speak, SpeakExternal, Reset, Accepted}
 use Rattle.address.specs.Addresses.{loaded, pastByte, branched, restarted}
 use Rattle.clock.specs.Counters.{started}
-use Rattle.control.specs.State.{powerUpControl, withMode, withAddress, withPort, withClock}
+use Rattle.control.specs.Device.{atPowerUp, loadedRate}
+use Rattle.control.specs.State.{powerUpControl, withMode, withAddress, withPort, withClock, withDevice}
 use Rattle.control.specs.Status.{noData}
 
 -- the sound stays as it is
@@ -20,7 +21,7 @@ talking m k = record { control = withClock (started (k .clock)) (withMode m k); 
 
 -- Reset gives the power-up state, in which the sound is at rest
 abbrev pub reset : Control → Accepted
-reset k = record { control = powerUpControl; rests = true }
+reset k = record { control = powerUpControl (atPowerUp (k .device)); rests = true }
 
 -- the control without pending data
 abbrev pub dataDropped : Control → Control
@@ -32,7 +33,7 @@ dataTaken image k = record { pending = true; «data» = field image (k .address 
 
 -- what each command does; b is the byte that it was in
 abbrev pub obeyed : List ℕ → Control → ℕ → Command → Accepted
-obeyed image k b Nothing = soundKept (dataDropped k)
+obeyed image k b LoadFrameRate = soundKept (withDevice (loadedRate (k .device) b) (dataDropped k))
 obeyed image k b ReadByte = soundKept (withAddress (pastByte (k .address)) (withPort (dataTaken image k) k))
 obeyed image k b ReadAndBranch = soundKept (withAddress (branched image (k .address)) (dataDropped k))
 obeyed image k b LoadAddress = soundKept (withAddress (loaded (k .address) (b % 16)) (dataDropped k))

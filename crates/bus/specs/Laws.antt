@@ -4,6 +4,7 @@ use mathlib.Core.Bool.{true, false}
 use mathlib.Core.List.{List}
 use Prim.Native.Nat.{ℕ}
 use Rattle.rom.specs.Bits.{imageValid}
+use Rattle.control.specs.Device.{SameKind}
 use Rattle.control.specs.Validity.{controlValid}
 use Rattle.control.specs.Commands.{commandOf, waits, beyond}
 use Rattle.bus.specs.Types.{Control}
@@ -15,6 +16,10 @@ AcceptKeepsValid =
     (image : List ℕ) (k : Control) (b : ℕ) → imageValid image ≡ true → controlValid k ≡ true
     → waits (k .mode) (k .fifo .level) (commandOf b) ≡ false → beyond (k .mode) image (k .address .position) (commandOf b) ≡ false
     → controlValid (accepted image k b .control) ≡ true
+
+-- No byte turns one device into the other.
+abbrev pub KindKept : Type 0
+KindKept = (image : List ℕ) (k : Control) (b : ℕ) → SameKind (accepted image k b .control .device) (k .device)
 
 -- Where the byte does not put the sound at rest, the chip sounds after it exactly if it did before.
 abbrev pub SoundingKept : Type 0

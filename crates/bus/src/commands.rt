@@ -39,7 +39,8 @@ pub(crate) fn talk(control: Control, mode: Mode) -> Accepted
 pub(crate) fn reset(control: Control) -> Accepted
     ensures { λ r. ⌜ r ≡ reset control ⌝ }
 {
-    let next = Control::power_up();
+    let device = control.device;
+    let next = Control::power_up(device.power_up());
     Accepted {
         control: next,
         rests: true,
@@ -72,9 +73,10 @@ pub(crate) fn obey(control: Control, image: &[u8], byte: u8, command: Command) -
     ensures { λ r. ⌜ r ≡ obeyed (now (image .entry)) control byte command ⌝ }
 {
     let address = control.address;
+    let device = control.device;
     let dropped = drop_data(control);
     match command {
-        Command::Nothing => sound_kept(dropped),
+        Command::LoadFrameRate => sound_kept(dropped.with_device(device.load_rate(byte))),
         Command::ReadByte => {
             let port = take_data(control, image);
             sound_kept(control.with_port(port).with_address(address.pass_byte()))

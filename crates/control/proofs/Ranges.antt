@@ -1,9 +1,9 @@
 -- What a valid control's fields are, from the tests, and back.
 -- Assumes nothing.
-use mathlib.Core.Path.{_≡_}
+use mathlib.Core.Path.{_≡_, refl}
 use mathlib.Core.Bool.{true}
 use mathlib.Core.List.{[], _∷_}
-use Prim.Native.Nat.{_≤_}
+use Prim.Native.Nat.{ℕ, _≤_}
 use native.Mathlib.Omega.{arith}
 use Rattle.base.proofs.Booleans.{all-true}
 use Rattle.address.specs.Addresses.{positionLimit, addressValid}
@@ -12,7 +12,9 @@ use Rattle.clock.specs.Counters.{lastSample, lastInterval, clockValid}
 use Rattle.clock.proofs.Ranges.{clock-ranges}
 use Rattle.fifo.specs.Laws.{Fits}
 use Rattle.fifo.proofs.Ranges.{FifoRanges, fifo-ranges}
-use Rattle.control.specs.Types.{Mode, Idle, Rom, Waiting, External, Fifo, Control}
+use Rattle.rates.proofs.Rates.{loaded-valid}
+use Rattle.control.specs.Types.{Mode, Idle, Rom, Waiting, External, Device, Tms5220, Tms5220C, Fifo, Control}
+use Rattle.control.specs.Device.{atPowerUp, loadedRate, deviceValid}
 use Rattle.control.specs.Validity.{speaks, leastLevel, mostLevel, mostUsed, fifoValid, portValid, controlValid}
 
 -- the conditions of a valid control
@@ -21,17 +23,19 @@ pub record ControlRanges (k : Control) : Type 0 where
   pub fifo : fifoValid (k .mode) (k .fifo) ≡ true
   pub port : portValid (k .mode) (k .port) ≡ true
   pub clock : clockValid (speaks (k .mode)) (k .clock) ≡ true
+  pub device : deviceValid (k .device) ≡ true
 
 pub control-ranges : (k : Control) → controlValid k ≡ true → ControlRanges k
 unfolding controlValid
 control-ranges k h =
     let r = all-true
-    (addressValid (k .address) ∷ fifoValid (k .mode) (k .fifo) ∷ portValid (k .mode) (k .port) ∷ clockValid (speaks (k .mode)) (k .clock) ∷ []) h in
-    record { address = r .0; fifo = r .1 .0; port = r .1 .1 .0; clock = r .1 .1 .1 .0 }
+    (addressValid (k .address) ∷ fifoValid (k .mode) (k .fifo) ∷ portValid (k .mode) (k .port) ∷ clockValid (speaks (k .mode)) (k .clock)
+    ∷ deviceValid (k .device) ∷ []) h in
+    record { address = r .0; fifo = r .1 .0; port = r .1 .1 .0; clock = r .1 .1 .1 .0; device = r .1 .1 .1 .1 .0 }
 
 pub control-in-ranges : (k : Control) → ControlRanges k → controlValid k ≡ true
 unfolding controlValid
-control-in-ranges k r = rw (r .address, r .fifo, r .port, r .clock)
+control-in-ranges k r = rw (r .address, r .fifo, r .port, r .clock, r .device)
 
 -- the address register and the clock of a valid control
 pub valid-ranges : (k : Control) → controlValid k ≡ true
@@ -51,3 +55,13 @@ valid-fits Idle f h = let r = mode-ranges Idle f h in omega arith
 valid-fits Rom f h = let r = mode-ranges Rom f h in omega arith
 valid-fits Waiting f h = let r = mode-ranges Waiting f h in omega arith
 valid-fits External f h = let r = mode-ranges External f h in omega arith
+
+-- ---- the device
+
+pub power-up-device : (d : Device) → deviceValid (atPowerUp d) ≡ true
+power-up-device Tms5220 = refl
+power-up-device (Tms5220C r) = refl
+
+pub loaded-device : (d : Device) (b : ℕ) → deviceValid (loadedRate d b) ≡ true
+loaded-device Tms5220 b = refl
+loaded-device (Tms5220C r) b = loaded-valid b

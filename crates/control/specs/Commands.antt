@@ -4,20 +4,21 @@ use mathlib.Core.List.{List, [], _∷_}
 use Prim.Native.Nat.{ℕ, _+_, _*_, _/_, _%_}
 use lib.Dec.{eqb, leb}
 use lib.ListN.{length, getD}
-use Rattle.control.specs.Types.{Mode, Idle, Rom, Waiting, External, Command, Nothing, ReadByte, ReadAndBranch, LoadAddress, Speak, SpeakExternal, Reset}
+use Rattle.control.specs.Types.{Mode, Idle, Rom, Waiting, External, Command, LoadFrameRate, ReadByte, ReadAndBranch, LoadAddress, Speak, SpeakExternal, Reset}
 use Rattle.fifo.specs.Buffer.{fifoSize}
 
--- the middle code, weights 40, 20, 10, chooses; the top bit is ignored
+-- the middle code, weights 40, 20, 10, chooses; the top bit is ignored. Codes 000 and 010 are Load Frame Rate (02, §5), which does
+-- nothing on the TMS5220
 abbrev pub commandOf : ℕ → Command
 commandOf b =
     getD
-    (Nothing ∷ ReadByte ∷ Nothing ∷ ReadAndBranch ∷ LoadAddress ∷ Speak ∷ SpeakExternal ∷ Reset ∷ [])
+    (LoadFrameRate ∷ ReadByte ∷ LoadFrameRate ∷ ReadAndBranch ∷ LoadAddress ∷ Speak ∷ SpeakExternal ∷ Reset ∷ [])
     (b / 16 % 8)
-    Nothing
+    LoadFrameRate
 
 -- the command that ROM speech takes
 abbrev pub isReset : Command → Bool
-isReset Nothing = false
+isReset LoadFrameRate = false
 isReset ReadByte = false
 isReset ReadAndBranch = false
 isReset LoadAddress = false
@@ -35,7 +36,7 @@ waits External level k = eqb level fifoSize
 -- 2 BEYOND, of a command at a position: Read Byte with under 8 bits left; Read and Branch with either byte outside the image;
 -- Speak with no bit left
 abbrev pub beyondAt : List ℕ → ℕ → Command → Bool
-beyondAt image p Nothing = false
+beyondAt image p LoadFrameRate = false
 beyondAt image p ReadByte = not (leb (p + 8) (8 * length image))
 beyondAt image p ReadAndBranch = not (leb (p / 8 + 2) (length image))
 beyondAt image p LoadAddress = false

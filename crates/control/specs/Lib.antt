@@ -1,4 +1,5 @@
 pub mod Types
+pub mod Device
 pub mod State
 pub mod Validity
 pub mod Commands

@@ -4,38 +4,43 @@ use Prim.Native.Nat.{ℕ}
 use Rattle.address.specs.Addresses.{powerUpAddress}
 use Rattle.clock.specs.Counters.{powerUpClock}
 use Rattle.fifo.specs.Buffer.{emptyFifo}
-use Rattle.control.specs.Types.{Mode, Idle, AddressRegister, Fifo, Port, Clock, Control}
+use Rattle.control.specs.Types.{Device, Mode, Idle, AddressRegister, Fifo, Port, Clock, Control}
 
 -- the bytes with which external speaking starts
 abbrev pub startLevel : ℕ
 startLevel = 9
 
--- power-up (01, "Commands, FIFO, status"): idle, silent, empty FIFO, position 0, no data byte, no interrupt
-abbrev pub powerUpControl : Control
-powerUpControl = record {
+-- power-up of a device (01, "Commands, FIFO, status"): idle, silent, empty FIFO, position 0, no data byte, no interrupt
+abbrev pub powerUpControl : Device → Control
+powerUpControl d = record {
   mode = Idle;
   address = powerUpAddress;
   fifo = emptyFifo;
   port = record { pending = false; «data» = 0; interrupt = false };
   clock = powerUpClock;
+  device = d;
 }
 
 -- the control in another mode
 abbrev pub withMode : Mode → Control → Control
-withMode m k = record { mode = m; address = k .address; fifo = k .fifo; port = k .port; clock = k .clock }
+withMode m k = record { mode = m; address = k .address; fifo = k .fifo; port = k .port; clock = k .clock; device = k .device }
 
 -- with another address register
 abbrev pub withAddress : AddressRegister → Control → Control
-withAddress p k = record { mode = k .mode; address = p; fifo = k .fifo; port = k .port; clock = k .clock }
+withAddress p k = record { mode = k .mode; address = p; fifo = k .fifo; port = k .port; clock = k .clock; device = k .device }
 
 -- with another FIFO
 abbrev pub withFifo : Fifo → Control → Control
-withFifo f k = record { mode = k .mode; address = k .address; fifo = f; port = k .port; clock = k .clock }
+withFifo f k = record { mode = k .mode; address = k .address; fifo = f; port = k .port; clock = k .clock; device = k .device }
 
 -- with another port
 abbrev pub withPort : Port → Control → Control
-withPort p k = record { mode = k .mode; address = k .address; fifo = k .fifo; port = p; clock = k .clock }
+withPort p k = record { mode = k .mode; address = k .address; fifo = k .fifo; port = p; clock = k .clock; device = k .device }
 
 -- with another clock
 abbrev pub withClock : Clock → Control → Control
-withClock t k = record { mode = k .mode; address = k .address; fifo = k .fifo; port = k .port; clock = t }
+withClock t k = record { mode = k .mode; address = k .address; fifo = k .fifo; port = k .port; clock = t; device = k .device }
+
+-- with another device
+abbrev pub withDevice : Device → Control → Control
+withDevice d k = record { mode = k .mode; address = k .address; fifo = k .fifo; port = k .port; clock = k .clock; device = d }

@@ -5,6 +5,7 @@ use lib.Dec.{eqb}
 use Rattle.address.specs.Addresses.{addressValid}
 use Rattle.clock.specs.Counters.{clockValid}
 use Rattle.fifo.specs.Buffer.{fifoInside}
+use Rattle.control.specs.Device.{deviceValid}
 use Rattle.control.specs.Types.{Mode, Idle, Rom, Waiting, External, Fifo, Port, Control}
 
 -- a speaking mode
@@ -54,3 +55,4 @@ portValid m p = (not (p .pending) || isIdle m) && (p .pending || eqb (p .«data�
 unfoldable pub controlValid : Control → Bool
 controlValid k =
     addressValid (k .address) && fifoValid (k .mode) (k .fifo) && portValid (k .mode) (k .port) && clockValid (speaks (k .mode)) (k .clock)
+    && deviceValid (k .device)

@@ -9,7 +9,8 @@ use crate::state::Mode;
 use fifo::Fifo;
 
 pub enum Command {
-    Nothing,
+    // Nothing on the TMS5220.
+    LoadFrameRate,
     ReadByte,
     ReadAndBranch,
     LoadAddress,
@@ -24,9 +25,9 @@ pub fn command_of(byte: u8) -> Command
 {
     let code = byte / 16 % 8;
     match code {
-        0 => Command::Nothing,
+        0 => Command::LoadFrameRate,
         1 => Command::ReadByte,
-        2 => Command::Nothing,
+        2 => Command::LoadFrameRate,
         3 => Command::ReadAndBranch,
         4 => Command::LoadAddress,
         5 => Command::Speak,
@@ -40,7 +41,7 @@ impl Command {
         ensures { λ r. ⌜ r ≡ isReset self ⌝ }
     {
         match self {
-            Command::Nothing => false,
+            Command::LoadFrameRate => false,
             Command::ReadByte => false,
             Command::ReadAndBranch => false,
             Command::LoadAddress => false,
@@ -56,7 +57,7 @@ impl Command {
     {
         let n = image.len();
         match self {
-            Command::Nothing => false,
+            Command::LoadFrameRate => false,
             Command::ReadByte => !(position + 8 <= 8 * n),
             Command::ReadAndBranch => !(position / 8 + 2 <= n),
             Command::LoadAddress => false,

@@ -1,6 +1,7 @@
 // The control's value: its parts, power-up, and the control with one of its parts changed.
 ghost use mathlib.Core.Path.{_≡_};
-ghost use Rattle.control.specs.State.{powerUpControl, withMode, withAddress, withFifo, withPort, withClock};
+ghost use Rattle.control.specs.State.{powerUpControl, withMode, withAddress, withFifo, withPort, withClock, withDevice};
+use crate::device::Device;
 use address::AddressRegister;
 use clock::Clock;
 use fifo::Fifo;
@@ -29,14 +30,15 @@ pub struct Control {
     pub fifo: Fifo,
     pub port: Port,
     pub clock: Clock,
+    pub device: Device,
 }
 
 impl Control {
     // External speaking starts with this many bytes held.
     pub const START_LEVEL: u8 = 9;
 
-    pub fn power_up() -> Control
-        ensures { λ r. ⌜ r ≡ powerUpControl ⌝ }
+    pub fn power_up(device: Device) -> Control
+        ensures { λ r. ⌜ r ≡ powerUpControl device ⌝ }
     {
         let address = AddressRegister::power_up();
         let fifo = Fifo::empty();
@@ -51,6 +53,7 @@ impl Control {
                 interrupt: false,
             },
             clock,
+            device,
         }
     }
 
@@ -61,12 +64,14 @@ impl Control {
         let fifo = self.fifo;
         let port = self.port;
         let clock = self.clock;
+        let device = self.device;
         Control {
             mode,
             address,
             fifo,
             port,
             clock,
+            device,
         }
     }
 
@@ -100,5 +105,23 @@ impl Control {
         let mut control = self;
         control.clock = clock;
         control
+    }
+
+    pub fn with_device(self, device: Device) -> Control
+        ensures { λ r. ⌜ r ≡ withDevice device self ⌝ }
+    {
+        let mode = self.mode;
+        let address = self.address;
+        let fifo = self.fifo;
+        let port = self.port;
+        let clock = self.clock;
+        Control {
+            mode,
+            address,
+            fifo,
+            port,
+            clock,
+            device,
+        }
     }
 }

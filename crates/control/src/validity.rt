@@ -88,6 +88,11 @@ impl Control {
         let fifo = self.fifo;
         let port = self.port;
         let clock = self.clock;
-        address.valid() & mode.fifo_valid(fifo) & port.valid(mode) & clock.valid(mode.speaks())
+        let device = self.device;
+        address.valid()
+            & mode.fifo_valid(fifo)
+            & port.valid(mode)
+            & clock.valid(mode.speaks())
+            & device.valid()
     }
 }
