@@ -9,11 +9,9 @@ use lib.ListN.{length, take, drop, replicate, length-append, length-take, length
 use lib.Seq.{take-suc-set, take-add, take-append-le, drop-append-le, drop-append-add, drop-drop, length-take-le}
 use mathlib.Core.Logic.{_↔_}
 use Rattle.rom.specs.Bits.{digits, bit, Begins}
-use Rattle.rom.specs.declared.frames.Frame.{Frame}
-use Rattle.rom.specs.declared.reader.FrameAnswer.{FrameAnswer}
-use Rattle.rom.specs.declared.reader.FrameAnswer.the-variants.{Whole, Cut}
+use Rattle.rom.specs.Items.{ItemAnswer, whole, cut}
 use Rattle.rom.proofs.Encoding.{begins-room, begins-split, begins-join}
-use Rattle.rom.proofs.CentralLaw.{central-law}
+use Rattle.rom.proofs.Prefixed.{prefixed-law}
 use Rattle.fifo.specs.declared.Fifo.{Fifo}
 use Rattle.fifo.specs.Buffer.{bitsOfByte, bitsOfBytes}
 use Rattle.fifo.specs.Laws.{Fits, HeldLength, HeldAppended, HeldUsed, HeldFrame, HeldCut}
@@ -111,17 +109,17 @@ module _ (s : List ℕ) where
     )
 
 pub held-frame : HeldFrame
-held-frame P f g n h =
+held-frame Q P f i n h =
     let s = take (f .level) (f .bytes) in
     let room : f .«used_bits» ≤ 8 * length s = omega (arith, length-take-le (f .level) (f .bytes) (within f h), h .used) in
-    simp (begins-is s (f .«used_bits») room) at (central-law P s (f .«used_bits») g n)
+    simp (begins-is s (f .«used_bits») room) at (prefixed-law Q P s .law (f .«used_bits») i n)
 
-no-whole : (t : FrameAnswer) → ((g : Frame) (n : ℕ) → t ≡ Whole g n → ⊥) → t ≡ Cut
-no-whole (Whole g n) h = absurd (h g n refl)
-no-whole Cut h = refl
+no-whole : {A : Type 0} (t : ItemAnswer A) → ((i : A) (n : ℕ) → t ≡ whole i n → ⊥) → t ≡ cut
+no-whole (whole i n) h = absurd (h i n refl)
+no-whole cut h = refl
 
 pub held-cut : HeldCut
-held-cut P f h = (
-  λ e g p b. let w = held-frame P f g _ h .1 (p, b, refl) in let z : _≡_ {A = ℕ} 0 1 = cc in absurd (omega arith),
-  λ none. no-whole _ (λ g n e. let r = held-frame P f g n h .0 e in none g (r .0) (r .1)),
+held-cut Q P f h = (
+  λ e i p b. let w = held-frame Q P f i _ h .1 (p, b, refl) in let z : _≡_ {A = ℕ} 0 1 = cc in absurd (omega arith),
+  λ none. no-whole _ (λ i n e. let r = held-frame Q P f i n h .0 e in none i (r .0) (r .1)),
 )

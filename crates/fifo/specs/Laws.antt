@@ -4,10 +4,9 @@ use mathlib.Core.Logic.{_↔_}
 use mathlib.Core.List.{_++_, IsPrefix}
 use Prim.Native.Nat.{ℕ, _+_, _*_, _-_, _<_, _≤_}
 use lib.ListN.{length, take, drop}
-use Rattle.rom.specs.Frames.{Proper, bitsOf}
-use Rattle.rom.specs.Reader.{frameAt}
+use Rattle.rom.specs.Items.{whole, cut}
+use Rattle.rom.specs.Prefix.{prefixedCode, readPrefixed}
 use Rattle.rom.specs.declared.frames.Frame.{Frame}
-use Rattle.rom.specs.declared.reader.FrameAnswer.the-variants.{Whole, Cut}
 use Rattle.fifo.specs.declared.Fifo.{Fifo}
 use Rattle.fifo.specs.Buffer.{fifoSize, appended, usedUp, bitsOfByte, heldBits}
 
@@ -29,16 +28,18 @@ HeldAppended = (f : Fifo) (b : ℕ) → Fits f → f .level < fifoSize → heldB
 abbrev pub HeldUsed : Type 0
 HeldUsed = (f : Fifo) (n : ℕ) → Fits f → n ≤ length (heldBits f) → heldBits (usedUp f (f .«used_bits» + n)) ≡ drop n (heldBits f)
 
--- The reader, on the bytes held and from the first bit not used, returns a whole frame g, and `next`, exactly when g is proper,
--- the bits held begin with g's, and `next` is the bit after them. P is the width of the pitch field.
+-- The reader, on the bytes held and from the first bit not used, returns a whole item, its prefix and frame, and `next`, exactly when
+-- the item is proper, the bits held begin with its bits, and `next` is the bit after them. Q is the width of the prefix, P that of the
+-- pitch field.
 abbrev pub HeldFrame : Type 0
 HeldFrame =
-    (P : ℕ) (f : Fifo) (g : Frame) (next : ℕ) → Fits f
-    → (frameAt P (take (f .level) (f .bytes)) (f .«used_bits») ≡ Whole g next)
-    ↔ (Proper P g × IsPrefix (bitsOf P g) (heldBits f) × (next ≡ f .«used_bits» + length (bitsOf P g)))
+    (Q P : ℕ) (f : Fifo) (i : ℕ × Frame) (next : ℕ) → Fits f
+    → (readPrefixed Q P (take (f .level) (f .bytes)) (f .«used_bits») ≡ whole i next)
+    ↔ (prefixedCode Q P .Proper i × IsPrefix (prefixedCode Q P .bits i) (heldBits f) × (next ≡ f .«used_bits» + length (prefixedCode Q P .bits i)))
 
--- It returns that the bits end exactly when those held begin with the bits of no proper frame.
+-- It returns that the bits end exactly when those held begin with the bits of no proper item.
 abbrev pub HeldCut : Type 0
 HeldCut =
-    (P : ℕ) (f : Fifo) → Fits f
-    → (frameAt P (take (f .level) (f .bytes)) (f .«used_bits») ≡ Cut) ↔ ((g : Frame) → Proper P g → IsPrefix (bitsOf P g) (heldBits f) → ⊥)
+    (Q P : ℕ) (f : Fifo) → Fits f
+    → (readPrefixed Q P (take (f .level) (f .bytes)) (f .«used_bits») ≡ cut)
+    ↔ ((i : ℕ × Frame) → prefixedCode Q P .Proper i → IsPrefix (prefixedCode Q P .bits i) (heldBits f) → ⊥)

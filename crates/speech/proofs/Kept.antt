@@ -1,4 +1,4 @@
--- A valid control steps to a valid control, and begins no frame that is not one of the table.
+-- A valid control steps to a valid control of the same device, and begins no frame that is not one of the table.
 -- Assumes nothing.
 use mathlib.Core.Path.{_≡_, refl, ap, subst}
 use mathlib.Core.Bool.{Bool, true, false, _||_}
@@ -11,27 +11,28 @@ use lib.ListN.{length, drop, replicate, length-append, length-drop, length-repli
 use lib.Seq.{drop-drop}
 use Rattle.base.specs.Units.{intervalsPerFrame}
 use Rattle.base.proofs.Booleans.{both-true, either-way, by-test}
-use Rattle.rom.specs.Bits.{imageLimit}
+use Rattle.rom.specs.Bits.{imageLimit, Begins}
 use Rattle.rom.specs.Frames.{Proper, isStop}
-use Rattle.rom.specs.Reader.{frameAt}
-use Rattle.rom.specs.declared.frames.Frame.{Frame}
-use Rattle.rom.specs.declared.reader.FrameAnswer.{FrameAnswer}
-use Rattle.rom.specs.declared.reader.FrameAnswer.the-variants.{Whole, Cut}
-use Rattle.rom.proofs.WholeFrame.{whole-frame}
+use Rattle.rom.specs.Items.{ItemAnswer, whole, cut}
+use Rattle.rom.proofs.Encoding.{begins-room}
+use Rattle.rom.proofs.Prefixed.{prefixed-law}
 use Rattle.address.specs.Addresses.{positionLimit, nibbles, movedTo}
 use Rattle.address.proofs.Ranges.{address-ranges, address-in-range}
-use Rattle.clock.specs.Counters.{clockValid, stopped, counted, intervalBegins, frameBegins}
+use Rattle.clock.specs.Counters.{clockValid, stopped, begun, counted, intervalBegins, frameBegins}
 use Rattle.clock.proofs.Ranges.{clock-ranges}
 use Rattle.fifo.specs.Buffer.{allZero, emptied, usedUp}
 use Rattle.fifo.proofs.Ranges.{fifo-in-range, zero-from}
-use Rattle.reports.specs.Reports.{Playable}
+use Rattle.rates.specs.Rates.{skippedWith}
+use Rattle.rates.specs.Form.{Item, itemCode, readItem}
+use Rattle.rates.proofs.Rates.{rate-keeps}
+use Rattle.reports.specs.Reports.{Playable, noDetails}
+use Rattle.control.specs.Device.{rateOf}
 use Rattle.control.specs.State.{withClock}
 use Rattle.control.specs.Validity.{speaks, isIdle, fifoValid, portValid}
 use Rattle.control.specs.Status.{raisedPort}
 use Rattle.control.proofs.Ranges.{ControlRanges, mode-ranges}
 use Rattle.speech.specs.Types.{Mode, Idle, Rom, Waiting, External, Fifo, Port, Clock, Control, NoReport, Action, Silent, Rest, Begin, Interpolate, Continue, Moved}
-use Rattle.speech.specs.Advance.{within, raises, changed, frameBegun, ranOut, fromRom, fromFifo, rested, boundaryIn, advanced}
-use Rattle.speech.proofs.Moving.{held}
+use Rattle.speech.specs.Advance.{within, raises, changed, frameBegun, ranOut, fromRom, fromFifo, formOf, heldBytes, rested, boundaryIn, advanced}
 
 -- ---- the FIFO with bits gone
 
@@ -86,6 +87,7 @@ pub record Kept (P : ℕ) (k : Control) (d : Moved) : Type 0 where
   pub control : ControlRanges (d .control)
   pub sounds : Sounds (k .clock .sounding) (d .control .clock .sounding) (d .action)
   pub playable : Playable P (d .action)
+  pub device : d .control .device ≡ k .device
 
 module _ (P : ℕ) (image : List ℕ) (small : length image ≤ imageLimit) (k : Control) (r : ControlRanges k) where
   address : (k .address .position ≤ positionLimit) × (k .address .«next_nibble» < nibbles)
@@ -102,41 +104,50 @@ module _ (P : ℕ) (image : List ℕ) (small : length image ≤ imageLimit) (k :
         fifo = g;
         port = port-valid (k .mode) m (k .port) (raises k m f) (r .port) idle;
         clock = h;
+        device = r .device;
       }
 
   out-kept : (p : ℕ) (f : Fifo) → p ≤ positionLimit → fifoValid Idle f ≡ true → Kept P k (ranOut k p f)
-  out-kept p f l h = record { control = changed-ranges Idle p f (stopped (k .clock)) l (λ i. refl) h refl; sounds = refl; playable = tt }
+  out-kept p f l h = record { control = changed-ranges Idle p f (stopped (k .clock)) l (λ i. refl) h refl; sounds = refl; playable = tt; device = refl }
 
   rest-kept : speaks (k .mode) ≡ false → Kept P k (rested k)
-  rest-kept e = record { control = record { address = r .address; fifo = r .fifo; port = r .port; clock = rw e }; sounds = refl; playable = tt }
+  rest-kept e = record { control = record { address = r .address; fifo = r .fifo; port = r .port; clock = rw e; device = r .device }; sounds = refl; playable = tt; device = refl }
+
+  -- what the reader returns is an item that stands there
+  read-law : (s : List ℕ) (at : ℕ) (i : Item) (next : ℕ) → readItem (formOf P k) s at ≡ whole i next
+      → itemCode (formOf P k) .Proper i × Begins s at (itemCode (formOf P k) .bits i) × (next ≡ at + length (itemCode (formOf P k) .bits i))
+  read-law s at i next e = prefixed-law (formOf P k .prefix) P s .law at i next .0 e
 
   module _ (on : k .clock .sounding ≡ true) where
-    begun-kept : (f : Frame) (p : ℕ) (g : Fifo) → Proper P f → p ≤ positionLimit → (isStop f ≡ false → fifoValid (k .mode) g ≡ true)
-        → Kept P k (frameBegun k f p g)
-    begun-kept f p g proper l h = record {
-      control =
-          either-way (isStop f)
-          (λ e. rw e (changed-ranges Idle p (emptied g) (counted (k .clock)) l (λ i. refl) refl (counted-valid false (k .clock) on)))
-          (λ e. rw e (changed-ranges (k .mode) p g (counted (k .clock)) l (λ i. i) (h e) (counted-valid (speaks (k .mode)) (k .clock) on)));
-      sounds = on;
-      playable = (proper, interval);
-    }
+    begun-kept : (i : Item) (p : ℕ) (g : Fifo) → Proper P (i .1) → p ≤ positionLimit → (isStop (i .1) ≡ false → fifoValid (k .mode) g ≡ true)
+        → Kept P k (frameBegun k i p g)
+    begun-kept (q, f) p g proper l h =
+        let t = begun (skippedWith (rateOf (k .device)) q) (k .clock) in
+        record {
+          control =
+              either-way (isStop f)
+              (λ e. rw e (changed-ranges Idle p (emptied g) (counted t) l (λ i. refl) refl (counted-valid false t on)))
+              (λ e. rw e (changed-ranges (k .mode) p g (counted t) l (λ i. i) (h e) (counted-valid (speaks (k .mode)) t on)));
+          sounds = on;
+          playable = (proper, rate-keeps (rateOf (k .device)) P q);
+          device = refl;
+        }
 
-    rom-kept : k .mode ≡ Rom → (x : FrameAnswer) → x ≡ frameAt P image (k .address .position) → Kept P k (fromRom image k x)
-    rom-kept m (Whole f next) a =
-        let w = whole-frame P image (k .address .position) a refl in
-        begun-kept f next (k .fifo) (w .proper) (omega (arith, w .inside)) (λ n. r .fifo)
-    rom-kept m Cut a = out-kept _ (k .fifo) (omega (arith, address)) (subst (λ (m : Mode). fifoValid m (k .fifo) ≡ true) m (r .fifo))
+    rom-kept : k .mode ≡ Rom → (x : ItemAnswer Item) → readItem (formOf P k) image (k .address .position) ≡ x → Kept P k (fromRom image k x)
+    rom-kept m (whole i next) a =
+        let w = read-law image (k .address .position) i next a in
+        begun-kept i next (k .fifo) (w .0 .1) (omega (arith, begins-room image (k .address .position) (itemCode (formOf P k) .bits i) (w .1), w .2)) (λ n. r .fifo)
+    rom-kept m cut a = out-kept _ (k .fifo) (omega (arith, address)) (subst (λ (m : Mode). fifoValid m (k .fifo) ≡ true) m (r .fifo))
 
-    fifo-kept : k .mode ≡ External → (x : FrameAnswer) → x ≡ frameAt P (held k) (k .fifo .«used_bits») → Kept P k (fromFifo k x)
-    fifo-kept m (Whole f next) a =
+    fifo-kept : k .mode ≡ External → (x : ItemAnswer Item) → readItem (formOf P k) (heldBytes k) (k .fifo .«used_bits») ≡ x → Kept P k (fromFifo k x)
+    fifo-kept m (whole i next) a =
         let external = subst (λ (m : Mode). fifoValid m (k .fifo) ≡ true) m (r .fifo) in
-        by-test (Kept P k) (isStop f || ltb next (8 * k .fifo .level))
+        by-test (Kept P k) (isStop (i .1) || ltb next (8 * k .fifo .level))
         (λ t.
-        begun-kept f (k .address .position) (usedUp (k .fifo) next) (whole-frame P (held k) (k .fifo .«used_bits») a refl .proper) (address .0)
+        begun-kept i (k .address .position) (usedUp (k .fifo) next) (read-law (heldBytes k) (k .fifo .«used_bits») i next a .0 .1) (address .0)
         (λ n. rw m (used-up-valid (k .fifo) next external (ltb-true _ _ (rw n at t)))))
         (λ t. out-kept (k .address .position) (emptied (k .fifo)) (address .0) refl)
-    fifo-kept m Cut a = out-kept (k .address .position) (emptied (k .fifo)) (address .0) refl
+    fifo-kept m cut a = out-kept (k .address .position) (emptied (k .fifo)) (address .0) refl
 
     boundary-kept : (m : Mode) → k .mode ≡ m → Kept P k (boundaryIn P m image k)
     boundary-kept Idle e = rest-kept (ap speaks e)
@@ -144,11 +155,12 @@ module _ (P : ℕ) (image : List ℕ) (small : length image ≤ imageLimit) (k :
     boundary-kept Waiting e = rest-kept (ap speaks e)
     boundary-kept External e = fifo-kept e _ refl
 
-    within-kept : Kept P k (record { control = withClock (counted (k .clock)) k; action = within (k .clock); report = NoReport })
+    within-kept : Kept P k (record { control = withClock (counted (k .clock)) k; action = within (k .clock); report = NoReport; details = noDetails })
     within-kept = record {
-      control = record { address = r .address; fifo = r .fifo; port = r .port; clock = counted-valid (speaks (k .mode)) (k .clock) on };
+      control = record { address = r .address; fifo = r .fifo; port = r .port; clock = counted-valid (speaks (k .mode)) (k .clock) on; device = r .device };
       sounds = by-test (Sounds (k .clock .sounding) (k .clock .sounding)) (intervalBegins (k .clock)) (λ e. on) (λ e. on);
       playable = by-test (Playable P) (intervalBegins (k .clock)) (λ e. interval) (λ e. tt);
+      device = refl;
     }
 
   pub advanced-kept : Kept P k (advanced P image k)
@@ -156,4 +168,4 @@ module _ (P : ℕ) (image : List ℕ) (small : length image ≤ imageLimit) (k :
   advanced-kept =
       by-test (Kept P k) (k .clock .sounding)
       (λ s. by-test (Kept P k) (frameBegins (k .clock)) (λ b. boundary-kept s (k .mode) refl) (λ b. within-kept s))
-      (λ s. record { control = r; sounds = refl; playable = tt })
+      (λ s. record { control = r; sounds = refl; playable = tt; device = refl })

@@ -6,14 +6,14 @@ use Prim.Native.Nat.{ℕ, _*_, max}
 use lib.Dec.{ltb}
 use lib.ListN.{length, take}
 use Rattle.rom.specs.Frames.{isStop}
-use Rattle.rom.specs.Reader.{frameAt}
-use Rattle.rom.specs.declared.frames.Frame.{Frame}
-use Rattle.rom.specs.declared.reader.FrameAnswer.{FrameAnswer}
-use Rattle.rom.specs.declared.reader.FrameAnswer.the-variants.{Whole, Cut}
+use Rattle.rom.specs.Items.{ItemAnswer, whole, cut}
 use Rattle.address.specs.Addresses.{movedTo}
-use Rattle.clock.specs.Counters.{stopped, counted, intervalBegins, frameBegins}
+use Rattle.clock.specs.Counters.{stopped, begun, counted, intervalBegins, frameBegins}
 use Rattle.fifo.specs.Buffer.{emptied, usedUp, bufferLow, bufferEmpty}
-use Rattle.reports.specs.Reports.{frameReport}
+use Rattle.rates.specs.Rates.{skippedWith}
+use Rattle.rates.specs.Form.{Form, rateForm, Item, readItem}
+use Rattle.reports.specs.Reports.{frameReport, noDetails, rated}
+use Rattle.control.specs.Device.{rateOf}
 use Rattle.control.specs.State.{withMode, withAddress, withFifo, withPort, withClock}
 use Rattle.control.specs.Validity.{speaks}
 use Rattle.control.specs.Status.{raisedPort}
@@ -30,40 +30,52 @@ abbrev pub changed : Control → Mode → ℕ → Fifo → Clock → Control
 changed k m p f t =
     withClock t (withPort (raisedPort (raises k m f) (k .port)) (withFifo f (withAddress (movedTo p (k .address)) (withMode m k))))
 
--- a frame is taken, and the position and the FIFO have moved on. Stop also makes the mode idle and discards held FIFO bytes
-abbrev pub frameBegun : Control → Frame → ℕ → Fifo → Moved
-frameBegun k f p held = record {
-  control = changed k (cond (isStop f) Idle (k .mode)) p (cond (isStop f) (emptied held) held) (counted (k .clock));
-  action = Begin f (k .clock .interval);
-  report = frameReport f;
-}
+-- a frame is taken, and the position and the FIFO have moved on; it begins after the intervals that its rate skips. Stop also makes
+-- the mode idle and discards held FIFO bytes
+abbrev pub frameBegun : Control → Item → ℕ → Fifo → Moved
+frameBegun k (q, f) p held =
+    let first = skippedWith (rateOf (k .device)) q in
+    record {
+      control = changed k (cond (isStop f) Idle (k .mode)) p (cond (isStop f) (emptied held) held) (counted (begun first (k .clock)));
+      action = Begin f first;
+      report = frameReport f;
+      details = rated q;
+    }
 
 -- running out: idle, sound at rest at once
 abbrev pub ranOut : Control → ℕ → Fifo → Moved
-ranOut k p held = record { control = changed k Idle p held (stopped (k .clock)); action = Rest; report = RanOut }
+ranOut k p held = record { control = changed k Idle p held (stopped (k .clock)); action = Rest; report = RanOut; details = noDetails }
 
 -- from ROM: if it ends inside a frame or before its first bit, the position goes to the image's end, or stays if past it
-abbrev pub fromRom : List ℕ → Control → FrameAnswer → Moved
-fromRom image k (Whole f next) = frameBegun k f next (k .fifo)
-fromRom image k Cut = ranOut k (max (k .address .position) (8 * length image)) (k .fifo)
+abbrev pub fromRom : List ℕ → Control → ItemAnswer Item → Moved
+fromRom image k (whole i next) = frameBegun k i next (k .fifo)
+fromRom image k cut = ranOut k (max (k .address .position) (8 * length image)) (k .fifo)
 
 -- from the FIFO: if its bits end inside a frame, or exactly with a frame other than a stop, they are used up
-abbrev pub fromFifo : Control → FrameAnswer → Moved
-fromFifo k (Whole f next) =
-    cond (isStop f || ltb next (8 * k .fifo .level)) (frameBegun k f (k .address .position) (usedUp (k .fifo) next))
+abbrev pub fromFifo : Control → ItemAnswer Item → Moved
+fromFifo k (whole i next) =
+    cond (isStop (i .1) || ltb next (8 * k .fifo .level)) (frameBegun k i (k .address .position) (usedUp (k .fifo) next))
     (ranOut k (k .address .position) (emptied (k .fifo)))
-fromFifo k Cut = ranOut k (k .address .position) (emptied (k .fifo))
+fromFifo k cut = ranOut k (k .address .position) (emptied (k .fifo))
+
+-- how the device's frames stand in the bits, at the rate that is set
+abbrev pub formOf : ℕ → Control → Form
+formOf P k = rateForm (rateOf (k .device)) P
+
+-- the bytes that the FIFO holds
+abbrev pub heldBytes : Control → List ℕ
+heldBytes k = take (k .fifo .level) (k .fifo .bytes)
 
 -- a frame boundary in idle or waiting puts the sound to rest
 abbrev pub rested : Control → Moved
-rested k = record { control = withClock (stopped (k .clock)) k; action = Rest; report = NoReport }
+rested k = record { control = withClock (stopped (k .clock)) k; action = Rest; report = NoReport; details = noDetails }
 
 -- at a frame boundary
 abbrev pub boundaryIn : ℕ → Mode → List ℕ → Control → Moved
 boundaryIn P Idle image k = rested k
-boundaryIn P Rom image k = fromRom image k (frameAt P image (k .address .position))
+boundaryIn P Rom image k = fromRom image k (readItem (formOf P k) image (k .address .position))
 boundaryIn P Waiting image k = rested k
-boundaryIn P External image k = fromFifo k (frameAt P (take (k .fifo .level) (k .fifo .bytes)) (k .fifo .«used_bits»))
+boundaryIn P External image k = fromFifo k (readItem (formOf P k) (heldBytes k) (k .fifo .«used_bits»))
 
 -- within a frame the sound is interpolated at an interval's first sample
 abbrev pub within : Clock → Action
@@ -74,5 +86,5 @@ unfoldable pub advanced : ℕ → List ℕ → Control → Moved
 advanced P image k =
     cond (k .clock .sounding)
     (cond (frameBegins (k .clock)) (boundaryIn P (k .mode) image k)
-    (record { control = withClock (counted (k .clock)) k; action = within (k .clock); report = NoReport }))
-    (record { control = k; action = Silent; report = NoReport })
+    (record { control = withClock (counted (k .clock)) k; action = within (k .clock); report = NoReport; details = noDetails }))
+    (record { control = k; action = Silent; report = NoReport; details = noDetails })

@@ -5,22 +5,25 @@ use mathlib.Core.Bool.{true}
 use mathlib.Core.List.{List, IsPrefix}
 use Prim.Native.Nat.{ℕ, _+_}
 use lib.ListN.{length}
-use Rattle.rom.specs.Frames.{Proper, bitsOf}
-use Rattle.rom.specs.declared.frames.Frame.{Frame}
-use Rattle.rom.specs.declared.reader.FrameAnswer.the-variants.{Whole, Cut}
+use Rattle.rom.specs.Items.{whole, cut}
 use Rattle.fifo.specs.Buffer.{heldBits}
+use Rattle.rates.specs.Form.{Item, itemCode}
 use Rattle.control.specs.Validity.{fifoValid}
 use Rattle.speech.specs.Types.{External, Control}
-use Rattle.speech.specs.Advance.{fromFifo, boundaryIn}
+use Rattle.speech.specs.Advance.{formOf, fromFifo, boundaryIn}
 
--- FIFO bits leave in order: the frame at a boundary in external speech is the proper one that the bits held begin with
+-- the item, its rate bits and frame, is proper and the bits held begin with its bits
+abbrev pub HeldFirst : ℕ → Control → Item → Type 0
+HeldFirst P k i = itemCode (formOf P k) .Proper i × IsPrefix (itemCode (formOf P k) .bits i) (heldBits (k .fifo))
+
+-- FIFO bits leave in order: a boundary in external speech takes the rate bits and the frame that the bits held begin with
 abbrev pub FifoFrame : Type 0
 FifoFrame =
-    (P : ℕ) (image : List ℕ) (k : Control) (g : Frame) → fifoValid External (k .fifo) ≡ true → Proper P g → IsPrefix (bitsOf P g) (heldBits (k .fifo))
-    → boundaryIn P External image k ≡ fromFifo k (Whole g (k .fifo .«used_bits» + length (bitsOf P g)))
+    (P : ℕ) (image : List ℕ) (k : Control) (i : Item) → fifoValid External (k .fifo) ≡ true → HeldFirst P k i
+    → boundaryIn P External image k ≡ fromFifo k (whole i (k .fifo .«used_bits» + length (itemCode (formOf P k) .bits i)))
 
 -- and where they begin with none, they end inside a frame
 abbrev pub FifoEnds : Type 0
 FifoEnds =
     (P : ℕ) (image : List ℕ) (k : Control) → fifoValid External (k .fifo) ≡ true
-    → ((g : Frame) → Proper P g → IsPrefix (bitsOf P g) (heldBits (k .fifo)) → ⊥) → boundaryIn P External image k ≡ fromFifo k Cut
+    → ((i : Item) → HeldFirst P k i → ⊥) → boundaryIn P External image k ≡ fromFifo k cut

@@ -2,32 +2,35 @@
 // parameter.
 ghost use mathlib.Core.Path.{_≡_};
 ghost use mathlib.Core.Bool.{true};
-ghost use Prim.Native.Nat.{_*_, _≤_, _<_};
-ghost use lib.ListN.{length, take};
+ghost use Prim.Native.Nat.{_≤_};
+ghost use lib.ListN.{length};
 ghost use Rattle.rom.specs.Bits.{imageLimit};
-ghost use Rattle.rom.specs.Reader.{frameAt};
 ghost use Rattle.address.specs.Addresses.{positionLimit};
-ghost use Rattle.clock.specs.Counters.{lastSample, lastInterval};
+ghost use Rattle.clock.specs.Counters.{lastSample};
 ghost use Rattle.fifo.specs.Buffer.{fifoSize};
+ghost use Rattle.rates.specs.Form.{readItem};
 ghost use Rattle.control.specs.Validity.{controlValid};
-ghost use Rattle.speech.specs.Advance.{raises, changed, frameBegun, ranOut, fromRom, fromFifo, rested, boundaryIn, within, advanced};
+ghost use Rattle.speech.specs.Advance.{raises, changed, frameBegun, ranOut, fromRom, fromFifo, formOf, heldBytes, rested, boundaryIn, within, advanced};
 use clock::Clock;
 use control::state::Control;
 use control::state::Mode;
 use fifo::Fifo;
 use reports::Action;
+use reports::Details;
 use reports::Report;
 use reports::report_frame;
+use rom::bits::field_at;
 use rom::frames::Frame;
 use rom::frames::is_stop;
 use rom::reader::FrameAnswer;
 use rom::reader::frame_at;
 
-// The control after a step, what it asks of the sound, and what it reports.
+// The control after a step, what it asks of the sound, what it reports, and what it gives besides.
 pub struct Moved {
     pub control: Control,
     pub action: Action,
     pub report: Report,
+    pub details: Details,
 }
 
 // Whether a change of mode and FIFO sets the interrupt.
@@ -57,16 +60,19 @@ fn change(control: Control, mode: Mode, position: usize, fifo: Fifo, clock: Cloc
         .with_clock(clock)
 }
 
-// The control after a frame, the position and the FIFO moved on.
-fn begin_frame(control: Control, frame: Frame, position: usize, held: Fifo) -> Moved
-    requires { ⌜ (control .clock .sample .0 ≤ lastSample) × (control .clock .interval .0 ≤ lastInterval) ⌝ }
-    ensures { λ r. ⌜ r ≡ frameBegun control frame position held ⌝ }
+// The control after a frame with these rate bits, the position and the FIFO moved on.
+fn begin_frame(control: Control, bits: u8, frame: Frame, position: usize, held: Fifo) -> Moved
+    requires { ⌜ control .clock .sample .0 ≤ lastSample ⌝ }
+    ensures { λ r. ⌜ r ≡ frameBegun control (bits, frame) position held ⌝ }
 {
+    let device = control.device;
+    let rate = device.rate();
+    let first = rate.skips(bits);
     let old = control.clock;
-    let interval = old.interval;
-    let clock = old.count();
-    let action = Action::Begin(frame, interval);
+    let clock = old.begin_at(first).count();
+    let action = Action::Begin(frame, first);
     let report = report_frame(frame);
+    let details = Details::rated(bits);
     let stop = is_stop(frame);
     if stop {
         let next = change(control, Mode::Idle, position, held.discard(), clock);
@@ -74,6 +80,7 @@ fn begin_frame(control: Control, frame: Frame, position: usize, held: Fifo) -> M
             control: next,
             action,
             report,
+            details,
         }
     } else {
         let mode = control.mode;
@@ -82,6 +89,7 @@ fn begin_frame(control: Control, frame: Frame, position: usize, held: Fifo) -> M
             control: next,
             action,
             report,
+            details,
         }
     }
 }
@@ -96,6 +104,7 @@ fn run_out(control: Control, position: usize, held: Fifo) -> Moved
         control: next,
         action: Action::Rest,
         report: Report::RanOut,
+        details: Details::none(),
     }
 }
 
@@ -104,13 +113,16 @@ fn from_rom(control: Control, image: &[u8], pitch_bits: usize) -> Moved
     requires { ⌜ (length (now image) ≤ imageLimit)
         × («pitch_bits» ≤ 8)
         × (control .address .position ≤ positionLimit)
-        × (control .clock .sample .0 ≤ lastSample)
-        × (control .clock .interval .0 ≤ lastInterval) ⌝ }
-    ensures { λ r. ⌜ r ≡ fromRom (now (image .entry)) control (frameAt «pitch_bits» (now (image .entry)) (control .address .position)) ⌝ }
+        × (control .clock .sample .0 ≤ lastSample) ⌝ }
+    ensures { λ r. ⌜ r ≡ fromRom (now (image .entry)) control (readItem (formOf «pitch_bits» control) (now (image .entry)) (control .address .position)) ⌝ }
 {
     let position = control.address.position;
     let held = control.fifo;
-    let answer = frame_at(image, position, pitch_bits);
+    let device = control.device;
+    let rate = device.rate();
+    let prefix = rate.prefix_bits();
+    let bits = field_at(image, position, prefix);
+    let answer = frame_at(image, position + prefix, pitch_bits);
     let FrameAnswer::Whole(frame, next) = answer else {
         let end = 8 * image.len();
         if position < end {
@@ -119,7 +131,7 @@ fn from_rom(control: Control, image: &[u8], pitch_bits: usize) -> Moved
             return run_out(control, position, held);
         }
     };
-    begin_frame(control, frame, next, held)
+    begin_frame(control, bits, frame, next, held)
 }
 
 // A frame from the FIFO, or its end.
@@ -127,22 +139,25 @@ fn from_fifo(control: Control, pitch_bits: usize) -> Moved
     requires { ⌜ («pitch_bits» ≤ 8)
         × (control .fifo .level ≤ fifoSize)
         × (control .fifo .«used_bits» ≤ 7)
-        × (control .clock .sample .0 ≤ lastSample)
-        × (control .clock .interval .0 ≤ lastInterval) ⌝ }
-    ensures { λ r. ⌜ r ≡ fromFifo control (frameAt «pitch_bits» (take (control .fifo .level) (control .fifo .bytes)) (control .fifo .«used_bits»)) ⌝ }
+        × (control .clock .sample .0 ≤ lastSample) ⌝ }
+    ensures { λ r. ⌜ r ≡ fromFifo control (readItem (formOf «pitch_bits» control) (heldBytes control) (control .fifo .«used_bits»)) ⌝ }
 {
     let position = control.address.position;
     let held = control.fifo;
     let bytes = held.bytes;
     let level = held.level as usize;
     let used = held.used_bits as usize;
-    let answer = frame_at(&bytes[..level], used, pitch_bits);
+    let device = control.device;
+    let rate = device.rate();
+    let prefix = rate.prefix_bits();
+    let bits = field_at(&bytes[..level], used, prefix);
+    let answer = frame_at(&bytes[..level], used + prefix, pitch_bits);
     let FrameAnswer::Whole(frame, next) = answer else {
         return run_out(control, position, held.discard());
     };
     let stop = is_stop(frame);
     if stop | (next < 8 * level) {
-        begin_frame(control, frame, position, held.use_up(next))
+        begin_frame(control, bits, frame, position, held.use_up(next))
     } else {
         run_out(control, position, held.discard())
     }
@@ -158,6 +173,7 @@ fn rest(control: Control) -> Moved
         control: next,
         action: Action::Rest,
         report: Report::Nothing,
+        details: Details::none(),
     }
 }
 
@@ -206,6 +222,7 @@ pub fn advance(control: Control, image: &[u8], pitch_bits: usize) -> Moved
                 control: next,
                 action,
                 report: Report::Nothing,
+                details: Details::none(),
             }
         }
     } else {
@@ -213,6 +230,7 @@ pub fn advance(control: Control, image: &[u8], pitch_bits: usize) -> Moved
             control,
             action: Action::Silent,
             report: Report::Nothing,
+            details: Details::none(),
         }
     }
 }

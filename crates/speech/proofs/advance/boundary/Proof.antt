@@ -2,7 +2,7 @@
 use borrow.Author.Needs.{needs}
 use native.Mathlib.Omega.{arith}
 use Rattle.control.proofs.Ranges.{valid-ranges}
-use Rattle.speech.proofs.Moving.{in-mode, external-fifo}
+use Rattle.speech.proofs.Boundaries.{in-mode, external-fifo}
 use Rattle.speech.proofs.advance.boundary.Statement.{statement}
 use Rattle.speech.proofs.advance.boundary.Tie as tie
 

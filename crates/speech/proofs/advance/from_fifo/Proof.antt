@@ -1,40 +1,70 @@
 -- `speech::advance::from_fifo` meets its contract. Assumes nothing.
 use borrow.Author.Needs.{needs}
 use mathlib.Core.Path.{_≡_, sym}
+use Prim.Native.Nat.{_≤_}
 use native.Mathlib.Omega.{arith}
 use lib.ListN.{length}
 use lib.Seq.{length-take-le}
 use Rattle.rom.proofs.WholeFrame.{whole-frame}
-use Rattle.speech.proofs.Moving.{held, fifo-whole, fifo-ended, fifo-cut}
+use Rattle.rates.proofs.Rates.{prefix-few}
+use Rattle.speech.specs.Advance.{heldBytes}
+use Rattle.speech.proofs.Boundaries.{item-whole, item-cut, fifo-whole, fifo-ended, fifo-cut}
 use Rattle.speech.proofs.advance.from_fifo.Statement.{statement}
 use Rattle.speech.proofs.advance.from_fifo.Tie as tie
 
-whole : (s : tie.Start) → length (s .args .control .fifo .bytes) ≡ 16
-whole s = search needs
+array : (s : tie.Start) → length (s .args .control .fifo .bytes) ≡ 16
+array s = search needs
 
 -- as many bytes are lent as are held
-lent : (s : tie.Start) → length (held (s .args .control)) ≡ s .args .control .fifo .level
-lent s = length-take-le (s .args .control .fifo .level) (s .args .control .fifo .bytes) (omega (arith, whole s, s .pre))
+lent : (s : tie.Start) → length (heldBytes (s .args .control)) ≡ s .args .control .fifo .level
+lent s = length-take-le (s .args .control .fifo .level) (s .args .control .fifo .bytes) (omega (arith, array s, s .pre))
 
-slice-aggregate : tie.Need-slice-aggregate-frame-at
-slice-aggregate c = sym (lent (c .before .before .before .before .before))
+-- the width of the rate bits
+few : (p : tie.After-prefix-bits) → p .prefix-bits .result ≤ 2
+few p = rw (p .prefix-bits .ensures) (prefix-few (p .before .rate .result))
 
-frame-at-requires : tie.Need-frame-at-requires
-frame-at-requires c κs = omega (arith, lent (c .before .before .before .before .before), c .before .before .before .before .before .pre)
+abbrev start : tie.After-prefix-bits → tie.Start
+start p = p .before .before .before .before .before .before
 
+-- the frame ends with the last bit held or before it
 use-up-requires : tie.Need-use-up-requires
 use-up-requires c κs =
-    let k = c .before .before .before .before .before .before .before .before .before .before .before .args .control in
-    (omega (arith, whole-frame _ (held k) (k .fifo .«used_bits») (c .before .before .before .before .before .frame-at .ensures) (c .before .before .before .answer .given .1) .inside, lent (c .before .before .before .before .before .before .before .before .before .before .before)), c .before .before .before .before .before .before .before .before .before .before .before .pre .1)
+    let f = c .before .before .before .before .before in
+    let s = start (f .before .before .before .before) in
+    (omega (arith, whole-frame _ (heldBytes (s .args .control)) _ (f .frame-at .ensures) (c .before .before .before .answer .given .1) .inside, lent s), s .pre .1)
 
 pub from-fifo-spec : {M : Type 1} → statement M
 from-fifo-spec =
-    tie.close (tie.spec (λ c. search needs) (λ c. search needs)
-    (λ c. omega (arith, whole (c .before .before .before .before), c .before .before .before .before .pre))
-    slice-aggregate frame-at-requires (λ c. search needs) (λ c. search needs) (λ c κs. search needs)
-    (λ c κs. search needs)
-    (λ c. fifo-cut _ (c .before .before .before .before .before .before .before .before .before .before .args .control) (c .before .before .before .before .frame-at .ensures) (c .before .before .enum-told .given .1) (rw (c .before .discard .ensures) at (c .run-out .ensures)))
-    (λ c κs. search needs) (λ c. search needs) use-up-requires (λ c κs. search needs) (λ c κs. search needs)
-    (λ c κs. search needs)
-    (λ c. fifo-whole _ (c .before .before .before .before .before .before .before .before .before .before .before .before .before .args .control) (c .before .before .before .before .before .before .before .frame-at .ensures) (c .before .before .before .before .before .answer .given .1) (rw (c .before .before .before .is-stop .ensures) at (c .before .before .if1 .taken)) (rw (c .before .use-up .ensures) at (c .begin-frame .ensures)))
-    (λ c. fifo-ended _ (c .before .before .before .before .before .before .before .before .before .before .before .before .before .args .control) (c .before .before .before .before .before .before .before .frame-at .ensures) (c .before .before .before .before .before .answer .given .1) (rw (c .before .before .before .is-stop .ensures) at (c .before .before .if1 .left)) (rw (c .before .discard2 .ensures) at (c .run-out2 .ensures))))
+    tie.close (tie.spec (λ c. search needs) (λ c. search needs) (λ c κs. search needs) (λ c κs. search needs)
+    (λ c. let s = c .before .before .before .before .before .before in omega (arith, array s, s .pre))
+    (λ c. sym (lent (c .before .before .before .before .before .before .before)))
+    (λ c κs. let p = c .before in let s = start p in omega (arith, few p, lent s, s .pre))
+    (λ c. let s = c .before .before .before .before .before .before .before .before in omega (arith, array s, s .pre))
+    (λ c. sym (lent (c .before .before .before .before .before .before .before .before .before)))
+    (λ c. let p = c .before .before .before in let s = start p in omega (arith, few p, s .pre))
+    (λ c κs. let p = c .before .before .before in let s = start p in omega (arith, few p, lent s, s .pre))
+    (λ c. search needs) (λ c. search needs) (λ c κs. search needs) (λ c κs. search needs)
+    (λ c.
+    let f = c .before .before .before .before in
+    let p = f .before .before .before .before in
+    let k = start p .args .control in
+    fifo-cut _ k
+    (item-cut _ k _ _ (p .before .rate .ensures) (p .prefix-bits .ensures) (f .before .before .field-at .ensures) (f .frame-at .ensures) (c .before .before .enum-told .given .1))
+    (rw (c .before .discard .ensures) at (c .run-out .ensures)))
+    (λ c κs. search needs) (λ c. search needs)
+    use-up-requires
+    (λ c κs. search needs) (λ c κs. search needs) (λ c κs. search needs)
+    (λ c.
+    let f = c .before .before .before .before .before .before .before in
+    let p = f .before .before .before .before in
+    let k = start p .args .control in
+    fifo-whole _ k
+    (item-whole _ k _ _ (p .before .rate .ensures) (p .prefix-bits .ensures) (f .before .before .field-at .ensures) (f .frame-at .ensures) (c .before .before .before .before .before .answer .given .1))
+    (rw (c .before .before .before .is-stop .ensures) at (c .before .before .if1 .taken)) (rw (c .before .use-up .ensures) at (c .begin-frame .ensures)))
+    (λ c.
+    let f = c .before .before .before .before .before .before .before in
+    let p = f .before .before .before .before in
+    let k = start p .args .control in
+    fifo-ended _ k
+    (item-whole _ k _ _ (p .before .rate .ensures) (p .prefix-bits .ensures) (f .before .before .field-at .ensures) (f .frame-at .ensures) (c .before .before .before .before .before .answer .given .1))
+    (rw (c .before .before .before .is-stop .ensures) at (c .before .before .if1 .left)) (rw (c .before .discard2 .ensures) at (c .run-out2 .ensures))))

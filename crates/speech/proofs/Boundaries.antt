@@ -1,0 +1,105 @@
+-- What the control does at a frame boundary, by what the reader returns, and the frame that a boundary in external speech takes.
+-- Assumes nothing.
+use mathlib.Core.Path.{_≡_, sym, ap, _∙_, subst, refl}
+use mathlib.Core.Bool.{true, false, _||_}
+use mathlib.Core.List.{List}
+use Prim.Native.Nat.{ℕ, _+_, _*_, _≤_, max}
+use lib.Dec.{ltb}
+use lib.ListN.{length}
+use Rattle.base.proofs.Booleans.{cond-true, cond-false}
+use Rattle.base.specs.declared.units.Intervals.{Intervals}
+use Rattle.rom.specs.Bits.{field}
+use Rattle.rom.specs.Frames.{isStop}
+use Rattle.rom.specs.Items.{whole, cut}
+use Rattle.rom.specs.Reader.{frameAt}
+use Rattle.rom.specs.declared.frames.Frame.{Frame}
+use Rattle.rom.specs.declared.reader.FrameAnswer.{FrameAnswer}
+use Rattle.rom.specs.declared.reader.FrameAnswer.the-variants.{Whole, Cut}
+use Rattle.clock.specs.Counters.{begun, counted, frameBegins}
+use Rattle.fifo.specs.Buffer.{fifoSize, emptied, usedUp}
+use Rattle.reports.specs.Reports.{frameReport, noDetails, rated}
+use Rattle.reports.specs.declared.Details.{Details}
+use Rattle.rates.specs.Rates.{prefixBits, skippedWith}
+use Rattle.rates.specs.Form.{Item, readItem}
+use Rattle.rates.specs.declared.rate.FrameRate.{FrameRate}
+use Rattle.control.specs.Device.{rateOf}
+use Rattle.control.specs.State.{withClock}
+use Rattle.control.specs.Validity.{fifoValid, controlValid}
+use Rattle.control.proofs.Ranges.{control-ranges, mode-ranges, valid-fits}
+use Rattle.fifo.proofs.Held.{held-frame, held-cut}
+use Rattle.speech.specs.Types.{Mode, Idle, External, Fifo, Clock, Control, Report, NoReport, Action, Silent, Begin, Moved}
+use Rattle.speech.specs.Advance.{within, changed, frameBegun, ranOut, fromRom, fromFifo, formOf, heldBytes, boundaryIn, advanced}
+use Rattle.speech.specs.Laws.{FifoFrame, FifoEnds}
+
+-- a frame that begins, from what its calls give
+module _ (k : Control) (q : ℕ) (f : Frame) (p : ℕ) (held : Fifo) {d : Control} {n : Intervals} {t : Clock} {r : Report} {e : Details}
+    (x : n ≡ skippedWith (rateOf (k .device)) q) (y : t ≡ counted (begun n (k .clock))) (z : r ≡ frameReport f) (w : e ≡ rated q) where
+  pub stop-begun : {g : Fifo} → isStop f ≡ true → d ≡ changed k Idle p g t → g ≡ emptied held
+      → record { control = d; action = Begin f n; report = r; details = e } ≡ frameBegun k (q, f) p held
+  stop-begun s c h = rw (z, w, s, c, h, y, x)
+
+  pub frame-begun : isStop f ≡ false → d ≡ changed k (k .mode) p held t
+      → record { control = d; action = Begin f n; report = r; details = e } ≡ frameBegun k (q, f) p held
+  frame-begun s c = rw (z, w, s, c, y, x)
+
+-- what the reader of items returns, from what its calls give
+module _ (P : ℕ) (k : Control) (s : List ℕ) (at : ℕ) {r : FrameRate} {Q q : ℕ} {x : FrameAnswer}
+    (d : r ≡ rateOf (k .device)) (e : Q ≡ prefixBits r) (b : q ≡ field s at Q) (a : x ≡ frameAt P s (at + Q)) where
+  pub item-whole : {f : Frame} {next : ℕ} → x ≡ Whole f next → whole (q, f) next ≡ readItem (formOf P k) s at
+  item-whole w = sym (rw (← d, ← e, ← b, ← a, w))
+
+  pub item-cut : x ≡ Cut → cut ≡ readItem (formOf P k) s at
+  item-cut w = sym (rw (← d, ← e, ← b, ← a, w))
+
+module _ (P : ℕ) (image : List ℕ) (k : Control) where
+  pub rom-whole : {r : Moved} {i : Item} {next : ℕ} → whole i next ≡ readItem (formOf P k) image (k .address .position)
+      → r ≡ frameBegun k i next (k .fifo) → r ≡ fromRom image k (readItem (formOf P k) image (k .address .position))
+  rom-whole e r = r ∙ ap (fromRom image k) e
+
+  pub rom-cut : {r : Moved} {p : ℕ} → cut ≡ readItem (formOf P k) image (k .address .position) → p ≡ max (k .address .position) (8 * length image)
+      → r ≡ ranOut k p (k .fifo) → r ≡ fromRom image k (readItem (formOf P k) image (k .address .position))
+  rom-cut e m r = r ∙ ap (λ (p : ℕ). ranOut k p (k .fifo)) m ∙ ap (fromRom image k) e
+
+  pub in-mode : {m : Mode} {r : Moved} → k .mode ≡ m → r ≡ boundaryIn P m image k → r ≡ boundaryIn P (k .mode) image k
+  in-mode e r = r ∙ ap (λ (m : Mode). boundaryIn P m image k) (sym e)
+
+  -- a step of the control
+  pub advanced-silent : {e : Details} → k .clock .sounding ≡ false → e ≡ noDetails
+      → record { control = k; action = Silent; report = NoReport; details = e } ≡ advanced P image k
+  unfolding advanced
+  advanced-silent s e = rw e (sym (cond-false _ _ _ s))
+
+  pub advanced-boundary : {r : Moved} → k .clock .sounding ≡ true → frameBegins (k .clock) ≡ true → r ≡ boundaryIn P (k .mode) image k → r ≡ advanced P image k
+  unfolding advanced
+  advanced-boundary s t r = r ∙ sym (cond-true _ _ _ s ∙ cond-true _ _ _ t)
+
+  pub advanced-within : {d : Control} {a : Action} {e : Details} → k .clock .sounding ≡ true → frameBegins (k .clock) ≡ false → d ≡ withClock (counted (k .clock)) k
+      → a ≡ within (k .clock) → e ≡ noDetails → record { control = d; action = a; report = NoReport; details = e } ≡ advanced P image k
+  unfolding advanced
+  advanced-within s t r a e = rw (r, a, e) (sym (cond-true _ _ _ s ∙ cond-false _ _ _ t))
+
+module _ (P : ℕ) (k : Control) {r : Moved} where
+  module _ {i : Item} {next : ℕ} (e : whole i next ≡ readItem (formOf P k) (heldBytes k) (k .fifo .«used_bits»)) where
+    pub fifo-whole : (isStop (i .1) || ltb next (8 * k .fifo .level)) ≡ true → r ≡ frameBegun k i (k .address .position) (usedUp (k .fifo) next)
+        → r ≡ fromFifo k (readItem (formOf P k) (heldBytes k) (k .fifo .«used_bits»))
+    fifo-whole t r = r ∙ sym (cond-true _ _ _ t) ∙ ap (fromFifo k) e
+
+    pub fifo-ended : (isStop (i .1) || ltb next (8 * k .fifo .level)) ≡ false → r ≡ ranOut k (k .address .position) (emptied (k .fifo))
+        → r ≡ fromFifo k (readItem (formOf P k) (heldBytes k) (k .fifo .«used_bits»))
+    fifo-ended t r = r ∙ sym (cond-false _ _ _ t) ∙ ap (fromFifo k) e
+
+  pub fifo-cut : cut ≡ readItem (formOf P k) (heldBytes k) (k .fifo .«used_bits») → r ≡ ranOut k (k .address .position) (emptied (k .fifo))
+      → r ≡ fromFifo k (readItem (formOf P k) (heldBytes k) (k .fifo .«used_bits»))
+  fifo-cut e r = r ∙ ap (fromFifo k) e
+
+-- the FIFO of external speech
+pub external-fifo : (k : Control) → k .mode ≡ External → controlValid k ≡ true → (k .fifo .level ≤ fifoSize) × (k .fifo .«used_bits» ≤ 7)
+external-fifo k m v =
+    let r = mode-ranges External (k .fifo) (subst (λ (m : Mode). fifoValid m (k .fifo) ≡ true) m (control-ranges k v .fifo)) in
+    (r .at-most, r .used-bits)
+
+pub fifo-frame : FifoFrame
+fifo-frame P image k i v h = ap (fromFifo k) (held-frame _ P (k .fifo) i _ (valid-fits External (k .fifo) v) .1 (h .0, h .1, refl))
+
+pub fifo-ends : FifoEnds
+fifo-ends P image k v none = ap (fromFifo k) (held-cut _ P (k .fifo) (valid-fits External (k .fifo) v) .1 (λ i p b. none i (p, b)))
