@@ -35,7 +35,7 @@ use Rattle.chip.proofs.Stepping.{Passed, passed, no-fault}
 
 pub power-up-valid : PowerUpValid
 unfolding valid controlValid soundValid atRest
-power-up-valid = refl
+power-up-valid = (refl, refl)
 
 -- ---- a byte written
 
@@ -71,7 +71,7 @@ acknowledge-keeps-valid c h =
     let r = chip-ranges c h in
     let k = r .control in
     rw h (in-ranges _ (record {
-      control = record { address = k .address; fifo = k .fifo; port = acknowledged-valid (c .control .mode) (c .control .port) (k .port); clock = k .clock };
+      control = record { address = k .address; fifo = k .fifo; port = acknowledged-valid (c .control .mode) (c .control .port) (k .port); clock = k .clock; device = k .device };
       sound = r .sound;
       quiet = r .quiet;
     }))

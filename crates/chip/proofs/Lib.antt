@@ -3,3 +3,4 @@ pub mod BusCalls
 pub mod Stepping
 pub mod KeptValid
 pub mod Playing
+pub mod SameKind

@@ -14,7 +14,7 @@ use lib.Dec.{eqb, leb}
 use Rattle.base.specs.Steps.{stateAfter, outputs}
 use Rattle.base.proofs.Steps.{same-state, same-outputs, after-add, outputs-add, after-keeps}
 use Rattle.rom.specs.Frames.{pitchBits}
-use Rattle.speech.proofs.Moving.{advanced-silent, advanced-within}
+use Rattle.speech.proofs.Boundaries.{advanced-silent, advanced-within}
 use Rattle.play.specs.Play.{sounded}
 use Rattle.base.proofs.Booleans.{both-true, either-way, by-test}
 use Rattle.sound.specs.Sample.{sampled, valuesOf, soundStep}
@@ -36,7 +36,7 @@ module _ (image voice : List ℕ) (c : Chip) (h : stepFault image voice c ≡ 0)
   unfolding stepTaken
   silent-step =
       ap (λ (r : Stepped). (r .chip, r .sample)) (sym (step-taken image voice c refl h refl))
-      ∙ ap (λ (m : Moved). (record { control = m .control; sound = sounded pitchBits voice (m .action) (c .sound) .sound }, sounded pitchBits voice (m .action) (c .sound) .value)) (sym (advanced-silent pitchBits image (c .control) off))
+      ∙ ap (λ (m : Moved). (record { control = m .control; sound = sounded pitchBits voice (m .action) (c .sound) .sound }, sounded pitchBits voice (m .action) (c .sound) .value)) (sym (advanced-silent pitchBits image (c .control) off refl))
 
   pub silent-state : (n : ℕ) → c ≡ stateAfter (sampleStep image voice) n c
   silent-state n = sym (same-state (sampleStep image voice) n silent-step)
@@ -82,7 +82,7 @@ module _ (image voice : List ℕ) where
       let t = c .control .clock in
       let inside : intervalBegins t ≡ false = ne-eqb (t .sample .0) 0 n in
       ap (λ (r : Stepped). (r .chip, r .sample)) (sym (step-taken image voice c refl h refl))
-      ∙ ap (λ (m : Moved). (record { control = m .control; sound = sounded pitchBits voice (m .action) (c .sound) .sound }, sounded pitchBits voice (m .action) (c .sound) .value)) (sym (advanced-within pitchBits image (c .control) {a = Continue} on (rw inside) refl (rw inside)))
+      ∙ ap (λ (m : Moved). (record { control = m .control; sound = sounded pitchBits voice (m .action) (c .sound) .sound }, sounded pitchBits voice (m .action) (c .sound) .value)) (sym (advanced-within pitchBits image (c .control) {a = Continue} on (rw inside) refl (rw inside) refl))
 
   -- a step without a fault leads to another
   abbrev Faultless : Chip → Type 0

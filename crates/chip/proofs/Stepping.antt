@@ -53,7 +53,7 @@ module _ (image voice : List ℕ) (c : Chip) where
   -- a step, from what its calls give
   pub step-taken-is : {m : Moved} {s : Sampled} {x : ℤ} → m ≡ advanced pitchBits image (c .control)
       → s ≡ sounded pitchBits voice (m .action) (c .sound) → x ≡ s .value
-      → record { chip = record { control = m .control; sound = s .sound }; refusal = 0; sample = x; report = m .report } ≡ stepTaken image voice c
+      → record { chip = record { control = m .control; sound = s .sound }; refusal = 0; sample = x; report = m .report; details = m .details } ≡ stepTaken image voice c
   unfolding stepTaken
   step-taken-is m s x = rw (x, s, m)
 
@@ -88,4 +88,5 @@ unfolding stepTaken
 control-alone image voice voice′ c d e = record {
   control = ap (λ (k : Control). advanced pitchBits image k .control) e;
   report = ap (λ (k : Control). advanced pitchBits image k .report) e;
+  details = ap (λ (k : Control). advanced pitchBits image k .details) e;
 }

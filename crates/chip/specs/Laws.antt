@@ -1,20 +1,21 @@
--- What is proved of every operation: the ranges are kept; and a step's control and report depend on the image and the control
--- alone.
+-- What is proved of every operation: the ranges and the kind of the device are kept; and a step's control and report depend on the
+-- image and the control alone.
 use mathlib.Core.Path.{_≡_}
 use mathlib.Core.Bool.{true}
 use mathlib.Core.List.{List}
 use Prim.Native.Nat.{ℕ}
+use Rattle.control.specs.Device.{SameKind}
 use Rattle.chip.specs.Types.{Chip, Stepped}
-use Rattle.chip.specs.State.{powerUp}
+use Rattle.chip.specs.State.{powerUp, powerUp5220C}
 use Rattle.chip.specs.Validity.{valid}
 use Rattle.chip.specs.Write.{writeOf}
 use Rattle.chip.specs.Read.{acknowledgeOf, readOf}
 use Rattle.chip.specs.Step.{stepTaken, stepOf}
 use Rattle.chip.specs.Run.{runOf}
 
--- The power-up state is valid.
+-- The power-up states are valid.
 abbrev pub PowerUpValid : Type 0
-PowerUpValid = valid powerUp ≡ true
+PowerUpValid = (valid powerUp ≡ true) × (valid powerUp5220C ≡ true)
 
 -- A valid chip stays valid under every written byte, taken or refused.
 abbrev pub WriteKeepsValid : Type 0
@@ -36,10 +37,23 @@ StepKeepsValid = (image voice : List ℕ) (c : Chip) → valid c ≡ true → va
 abbrev pub RunKeepsValid : Type 0
 RunKeepsValid = (image voice : List ℕ) (c : Chip) (n : ℕ) → valid c ≡ true → valid (runOf image voice c n .chip) ≡ true
 
--- two steps that leave the same control and report the same
+-- a chip of the same kind
+abbrev pub Alike : Chip → Chip → Type 0
+Alike d c = SameKind (d .control .device) (c .control .device)
+
+-- No operation turns one device into the other, valid or not.
+pub record KindKept (image voice : List ℕ) (c : Chip) : Type 0 where
+  pub write : (b : ℕ) → Alike (writeOf image c b .chip) c
+  pub acknowledge : Alike (acknowledgeOf c .chip) c
+  pub read : Alike (readOf c .chip) c
+  pub step : Alike (stepOf image voice c .chip) c
+  pub run : (n : ℕ) → Alike (runOf image voice c n .chip) c
+
+-- two steps that leave the same control, report the same and give the same besides
 pub record SameStep (s t : Stepped) : Type 0 where
   pub control : s .chip .control ≡ t .chip .control
   pub report : s .report ≡ t .report
+  pub details : s .details ≡ t .details
 
 -- What a step does to the control and what it reports depend on the image and the control alone, not on the voice file or the
 -- sound.

@@ -4,6 +4,8 @@ pub use Rattle.reports.specs.declared.Action.{Action}
 pub use Rattle.reports.specs.declared.Action.the-variants.{Silent, Rest, Begin, Interpolate, Continue}
 pub use Rattle.reports.specs.declared.Report.{Report}
 pub use Rattle.reports.specs.declared.Report.the-variants.{Nothing as NoReport}
+pub use Rattle.control.specs.declared.device.Device.{Device}
+pub use Rattle.control.specs.declared.device.Device.the-variants.{Tms5220, Tms5220C}
 pub use Rattle.control.specs.declared.state.Mode.{Mode}
 pub use Rattle.control.specs.declared.state.Port.{Port}
 pub use Rattle.control.specs.declared.state.Control.{Control}

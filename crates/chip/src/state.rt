@@ -1,11 +1,13 @@
 // The chip's value, its device numbers, and power-up.
 ghost use mathlib.Core.Path.{_≡_};
-ghost use Rattle.chip.specs.State.{powerUp, deviceNumbers};
+ghost use Rattle.chip.specs.State.{powerUpOf, powerUp, powerUp5220C, deviceNumbers};
 use address::AddressRegister;
 use base::units::Frames;
 use base::units::Intervals;
+use control::device::Device;
 use control::state::Control;
 use fifo::Fifo;
+use rates::rate::FrameRate;
 use sound::state::Sound;
 
 // The chip: what the host sees and steers, and the sound.
@@ -50,11 +52,24 @@ impl Chip {
 
     pub const INTERVALS_PER_FRAME: u64 = Frames::INTERVALS;
 
-    // Operation: power-up.
+    // Operation: power-up of a TMS5220 or TMS5200.
     pub fn power_up() -> Chip
         ensures { λ r. ⌜ r ≡ powerUp ⌝ }
     {
-        let control = Control::power_up();
+        Chip::power_up_of(Device::Tms5220)
+    }
+
+    // Operation: power-up of a TMS5220C.
+    pub fn power_up_5220c() -> Chip
+        ensures { λ r. ⌜ r ≡ powerUp5220C ⌝ }
+    {
+        Chip::power_up_of(Device::Tms5220C(FrameRate::power_up()))
+    }
+
+    fn power_up_of(device: Device) -> Chip
+        ensures { λ r. ⌜ r ≡ powerUpOf device ⌝ }
+    {
+        let control = Control::power_up(device);
         let sound = Sound::at_rest();
         Chip { control, sound }
     }

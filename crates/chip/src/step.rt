@@ -7,18 +7,20 @@ use base::refusal::IMAGE;
 use base::refusal::STATE;
 use base::refusal::TAKEN;
 use play::apply;
+use reports::Details;
 use reports::Report;
 use rom::bits::image_valid;
 use rom::frames::PITCH_BITS;
 use speech::advance::advance;
 use voice::checks::voice_check;
 
-// What a step returns: the next chip, the refusal number, the sample and what it reports.
+// What a step returns: the next chip, the refusal number, the sample, what it reports, and what it gives besides.
 pub struct Stepped {
     pub chip: Chip,
     pub refusal: u8,
     pub sample: i16,
     pub report: Report,
+    pub details: Details,
 }
 
 impl Chip {
@@ -51,6 +53,7 @@ impl Chip {
         let control = moved.control;
         let action = moved.action;
         let report = moved.report;
+        let details = moved.details;
         let sampled = apply(action, before, voice, PITCH_BITS);
         let sound = sampled.sound;
         let value = sampled.value;
@@ -59,6 +62,7 @@ impl Chip {
             refusal: TAKEN,
             sample: value,
             report,
+            details,
         }
     }
 
@@ -74,6 +78,7 @@ impl Chip {
                 refusal: fault,
                 sample: 0,
                 report: Report::Nothing,
+                details: Details::none(),
             };
         }
         self.take_step(image, voice)

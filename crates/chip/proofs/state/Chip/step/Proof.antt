@@ -14,6 +14,7 @@ in-numbers e = (e, ap (λ (r : Stepped). reportNumbers (r .report)) e)
 pub step-spec : {M : Type 1} → statement M
 step-spec =
     tie.close (tie.spec (λ c κs. search needs)
-    (λ c. in-numbers (step-refused _ _ _ (c .before .step-fault .ensures) (c .if1 .taken)))
+    (λ c κs. search needs)
+    (λ c. in-numbers (rw (c .none .ensures) (step-refused _ _ _ (c .before .before .step-fault .ensures) (c .before .if1 .taken))))
     (λ c κs. search needs)
     (λ c. in-numbers (step-taken _ _ _ (c .before .before .step-fault .ensures) (c .before .if1 .left) (c .take-step .ensures))))

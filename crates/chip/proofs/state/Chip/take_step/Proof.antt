@@ -23,12 +23,12 @@ advance-requires c κs =
 
 apply-requires : tie.Need-apply-requires
 apply-requires c κs =
-    let p = found (c .before .before .before .before .before .before) in
-    (omega arith, (version, p .voice-valid), rw (c .before .advance .ensures) (kept _ _ _ p .playable), chip-ranges _ (p .chip-valid) .sound)
+    let p = found (c .before .before .before .before .before .before .before) in
+    (omega arith, (version, p .voice-valid), rw (c .before .before .advance .ensures) (kept _ _ _ p .playable), chip-ranges _ (p .chip-valid) .sound)
 
 pub take-step-spec : {M : Type 1} → statement M
 take-step-spec =
     tie.close (tie.spec advance-requires apply-requires
     (λ c.
-    let a = c .before .before .before .before .before .before .before .before .before .args in
-    step-taken-is (now (a .image)) (now (a .voice)) (a .self) (c .before .before .before .before .advance .ensures) (c .before .before .apply .ensures) (search needs)))
+    let a = c .before .before .before .before .before .before .before .before .before .before .args in
+    step-taken-is (now (a .image)) (now (a .voice)) (a .self) (c .before .before .before .before .before .advance .ensures) (c .before .before .apply .ensures) (search needs)))
