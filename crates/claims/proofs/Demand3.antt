@@ -9,9 +9,11 @@ use Rattle.rom.specs.Phrases.{PhraseAt, framesAt}
 use Rattle.rom.specs.declared.frames.Frame.{Frame}
 use Rattle.rom.specs.declared.phrases.Walked.{Walked}
 use Rattle.rom.proofs.Theorems.{walk-accepts, walk-counts, phrase-unique, frames-read}
-use Rattle.schedule.specs.Form.{plain}
-use Rattle.schedule.proofs.Plain.{plain-bits, plain-ended}
+use Rattle.rates.specs.Rates.{powerUpRate}
+use Rattle.rates.specs.Form.{plain}
+use Rattle.rates.proofs.Plain.{plain-bits, plain-ended, plain-there}
 use Rattle.schedule.proofs.Due.{just-after}
+use Rattle.control.specs.declared.device.Device.the-variants.{Tms5220}
 use Rattle.claims.specs.Device.{chipForm}
 use Rattle.claims.specs.Demand3.{totalBits, endStep, positionDue, Demand3}
 use Rattle.claims.proofs.Opening.{opening}
@@ -24,15 +26,15 @@ ends-past image a {fs} p n h =
     ∙ ap (λ (bs : List ℕ). 8 * a + length bs) (plain-bits pitchBits fs)
 
 pub demand-3 : Demand3
-demand-3 image a i inside = record {
-  accepts = let w = walk-accepts pitchBits image a in (λ h. w .0 h .1, λ p. w .1 (i, p));
-  counts = λ fs p. walk-counts pitchBits image a fs i p;
-  one-phrase = phrase-unique pitchBits image a;
-  frames-exist = (framesAt pitchBits image a, frames-read pitchBits image a _ inside .1 refl);
-  frames-unique = λ fs gs p q. sym (frames-read pitchBits image a fs inside .0 p) ∙ frames-read pitchBits image a gs inside .0 q;
-  opened = λ l s.
-      let o = opening image a i inside l in
-      ap₂ (λ (ns : List ℕ) (n : ℕ). ns ++ (n ∷ [])) (o .0) (core image a i inside _ (o .1) s .0);
-  calls = λ l s. core image a i inside _ (opening image a i inside l .1) s .1;
-  same-end = λ fs p n h. ends-past image a p n h ∙ ap (λ (w : Walked). 8 * a + w .bits) (sym (walk-counts pitchBits image a fs i p));
-}
+demand-3 image a i inside =
+    let opens = opening image a i inside Tms5220 refl [] [] tt tt in
+    record {
+      accepts = let w = walk-accepts pitchBits image a in (λ h. w .0 h .1, λ p. w .1 (i, p));
+      counts = λ fs p. walk-counts pitchBits image a fs i p;
+      one-phrase = phrase-unique pitchBits image a;
+      frames-exist = (framesAt pitchBits image a, frames-read pitchBits image a _ inside .1 refl);
+      frames-unique = λ fs gs p q. sym (frames-read pitchBits image a fs inside .0 p) ∙ frames-read pitchBits image a gs inside .0 q;
+      opened = λ l s. ap₂ (λ (ns : List ℕ) (n : ℕ). ns ++ (n ∷ [])) (opens l .0) (core image a i inside powerUpRate _ (opens l .1) s .0);
+      calls = λ l s fs there. core image a i inside powerUpRate _ (opens l .1) s .1 (map plain fs) (plain-there pitchBits image a fs there);
+      same-end = λ fs p n h. ends-past image a p n h ∙ ap (λ (w : Walked). 8 * a + w .bits) (sym (walk-counts pitchBits image a fs i p));
+    }

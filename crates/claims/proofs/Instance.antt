@@ -3,7 +3,7 @@
 -- Assumes nothing.
 use mathlib.Core.Path.{_≡_, refl, sym, ap, ap₂, _∙_, subst}
 use mathlib.Core.Bool.{true}
-use mathlib.Core.List.{List, [], _∷_, map}
+use mathlib.Core.List.{List, [], _∷_}
 use Prim.Native.Nat.{ℕ, zero, suc, _+_, _*_, _≤_}
 use native.Mathlib.Omega.{arith}
 use borrow.Author.Tests.{eq-eqb, ne-eqb, le-leb}
@@ -14,13 +14,13 @@ use Rattle.base.specs.Steps.{stateAfter}
 use Rattle.base.proofs.Booleans.{by-test}
 use Rattle.rom.specs.Bits.{imageValid}
 use Rattle.rom.specs.Frames.{pitchBits}
-use Rattle.rom.specs.Items.{There}
-use Rattle.rom.specs.declared.frames.Frame.{Frame}
-use Rattle.schedule.specs.Form.{plain, itemCode}
+use Rattle.rates.specs.Form.{Item}
+use Rattle.rates.specs.Theorems.{ItemsThere}
+use Rattle.rates.specs.declared.rate.FrameRate.{FrameRate}
+use Rattle.rates.proofs.Rates.{rate-keeps}
 use Rattle.schedule.specs.Types.{Told, Speech}
 use Rattle.schedule.specs.Speech.{talkingFrom, spoken}
 use Rattle.schedule.specs.Calls.{Speaks}
-use Rattle.schedule.proofs.Plain.{plain-keeps, plain-there}
 use Rattle.schedule.proofs.Answering.{answers-due}
 use Rattle.control.specs.Validity.{speaks}
 use Rattle.control.specs.Commands.{commandOf, waits, beyond}
@@ -39,24 +39,25 @@ use Rattle.control.proofs.Ranges.{mode-ranges}
 use Rattle.chip.proofs.Ranges.{chip-ranges}
 use Rattle.chip.proofs.BusCalls.{write-refused}
 use Rattle.chip.proofs.KeptValid.{write-keeps-valid, read-keeps-valid, step-keeps-valid}
-use Rattle.claims.specs.Device.{chipForm, stepGives, runGives, writeGives, chipOn, faultOf, refusedAs, chipTable}
-use Rattle.claims.specs.Demand3.{AnswersDue, Core}
+use Rattle.claims.specs.Device.{ratedForm, stepGives, runGives, writeGives, chipOn, faultOf, refusedAs, chipTable}
+use Rattle.claims.specs.Answers.{AnswersDue}
+use Rattle.claims.specs.Opening.{Core}
 use Rattle.claims.proofs.Answers.{obeys, step-by-voice, run-by-voice, write-fault, read-taken, read-status, read-chip, still-none, status-is}
 use Rattle.claims.proofs.Moves.{speechOf, Calm, moves}
 
--- a valid chip that speaks from ROM or is idle
-pub record Still (c : Chip) : Type 0 where
+-- a valid chip that speaks from ROM, at the rate r, or is idle
+pub record Still (r : FrameRate) (c : Chip) : Type 0 where
   pub is-valid : valid c ≡ true
-  pub calm : Calm (c .control)
+  pub calm : Calm r (c .control)
 
 abbrev pub chipSpeech : Chip → Speech
 chipSpeech c = speechOf (c .control)
 
-module _ (image : List ℕ) (i : imageValid image ≡ true) where
+module _ (image : List ℕ) (i : imageValid image ≡ true) (r : FrameRate) where
   -- ---- a step
 
   -- by its voice file
-  module _ (voice : List ℕ) (c : Chip) (s : Still c) where
+  module _ (voice : List ℕ) (c : Chip) (s : Still r c) where
     taken : faultOf voice ≡ 0 → stepOf image voice c ≡ stepTaken image voice c
     taken g = step-by-voice image voice c i (s .is-valid) (eq-eqb _ 0 g)
 
@@ -64,23 +65,23 @@ module _ (image : List ℕ) (i : imageValid image ≡ true) where
     refused g = step-by-voice image voice c i (s .is-valid) (ne-eqb _ 0 g)
 
     -- taken, it is a step of the speech
-    taken-calm : Calm (stepTaken image voice c .chip .control)
+    taken-calm : Calm r (stepTaken image voice c .chip .control)
     unfolding stepTaken
-    taken-calm = moves image (c .control) (s .calm) .calm
+    taken-calm = moves image r (c .control) (s .calm) .calm
 
-    taken-speech : chipSpeech (stepTaken image voice c .chip) ≡ spoken chipForm image (chipSpeech c) .speech
+    taken-speech : chipSpeech (stepTaken image voice c .chip) ≡ spoken (ratedForm r) image (chipSpeech c) .speech
     unfolding stepTaken
-    taken-speech = moves image (c .control) (s .calm) .speech
+    taken-speech = moves image r (c .control) (s .calm) .speech
 
-    taken-answer : stepGives (stepTaken image voice c) .1 ≡ (0, spoken chipForm image (chipSpeech c) .told)
+    taken-answer : stepGives (stepTaken image voice c) .1 ≡ (0, spoken (ratedForm r) image (chipSpeech c) .told)
     unfolding stepTaken
-    taken-answer = ap (λ (t : Told). (0, t)) (moves image (c .control) (s .calm) .told)
+    taken-answer = ap (λ (t : Told). (0, t)) (moves image r (c .control) (s .calm) .told)
 
-    still : Still (stepOf image voice c .chip)
+    still : Still r (stepOf image voice c .chip)
     still = record {
       is-valid = step-keeps-valid image voice c (s .is-valid);
-      calm = subst (λ (r : Stepped). Calm (r .chip .control)) (sym (step-by-voice image voice c i (s .is-valid) refl))
-          (by-test (λ (r : Stepped). Calm (r .chip .control)) (eqb (faultOf voice) 0) (λ e. taken-calm) (λ e. s .calm));
+      calm = subst (λ (t : Stepped). Calm r (t .chip .control)) (sym (step-by-voice image voice c i (s .is-valid) refl))
+          (by-test (λ (t : Stepped). Calm r (t .chip .control)) (eqb (faultOf voice) 0) (λ e. taken-calm) (λ e. s .calm));
     }
 
   -- the chip after steps, whatever else they give
@@ -90,10 +91,10 @@ module _ (image : List ℕ) (i : imageValid image ≡ true) where
 
   -- ---- a read and a written byte
 
-  read-calm : (c : Chip) → Still c → Calm (acknowledged (c .control))
-  read-calm c s = record { mode = s .calm .mode; level = s .calm .level; pending = still-none (c .control .port) (s .calm .pending) }
+  read-calm : (c : Chip) → Still r c → Calm r (acknowledged (c .control))
+  read-calm c s = record { mode = s .calm .mode; level = s .calm .level; pending = still-none (c .control .port) (s .calm .pending); rate = s .calm .rate }
 
-  number : (c : Chip) (b : ℕ) → Still c → writeFault image c b ≡ refusedAs image (chipSpeech c .talking) (chipSpeech c .position) b
+  number : (c : Chip) (b : ℕ) → Still r c → writeFault image c b ≡ refusedAs image (chipSpeech c .talking) (chipSpeech c .position) b
   number c b s =
       write-fault image c b i (s .is-valid)
       ∙ ap₂ (λ (m : Mode) (l : ℕ). firstFault ((waits m l (commandOf b), WAIT) ∷ (beyond m image (c .control .address .position) (commandOf b), BEYOND) ∷ []))
@@ -101,7 +102,7 @@ module _ (image : List ℕ) (i : imageValid image ≡ true) where
 
   -- ---- all of it
 
-  pub chip-speaks : Speaks chipForm (chipTable image) image (chipOn image) chipSpeech Still
+  pub chip-speaks : Speaks (ratedForm r) (chipTable image) image (chipOn image) chipSpeech (Still r)
   chip-speaks = record {
     position = λ c s. refl;
     step-still = still;
@@ -113,7 +114,7 @@ module _ (image : List ℕ) (i : imageValid image ≡ true) where
     run-refused = λ voice n c s g. ap runGives (run-by-voice image voice c i (s .is-valid) n (ne-eqb _ 0 g));
     read-still = λ c s. record {
       is-valid = read-keeps-valid c (s .is-valid);
-      calm = subst (λ (d : Chip). Calm (d .control)) (sym (read-chip c (s .is-valid))) (read-calm c s);
+      calm = subst (λ (d : Chip). Calm r (d .control)) (sym (read-chip c (s .is-valid))) (read-calm c s);
     };
     read-speech = λ c s. ap chipSpeech (read-chip c (s .is-valid));
     read-byte = λ c s.
@@ -123,32 +124,32 @@ module _ (image : List ℕ) (i : imageValid image ≡ true) where
   }
 
 pub core : Core
-core image a i inside c r s = (ap (λ (w : Written). w .refusal) taken, λ fs there. answers fs (plain-there pitchBits image a fs there))
+core image a i inside r c ready s = (ap (λ (w : Written). w .refusal) taken, answers)
   where
     taken : writeOf image c (s .byte) ≡ record { chip = afterByte c (obeyed image (c .control) (s .byte) Speak); refusal = 0 }
     taken =
-        obeys image c (s .byte) Speak i (r .is-valid) (r .is-idle) (s .speak)
-        (rw (le-leb (c .control .address .position + 1) (8 * length image) (omega (arith, r .at-byte))))
+        obeys image c (s .byte) Speak i (ready .is-valid) (ready .is-idle) (s .speak)
+        (rw (le-leb (c .control .address .position + 1) (8 * length image) (omega (arith, ready .at-byte))))
 
     empty : c .control .fifo .level ≡ 0
-    empty = let f = mode-ranges (c .control .mode) (c .control .fifo) (chip-ranges c (r .is-valid) .control .fifo) .at-most in let m : c .control .fifo .level ≤ 0 = rw (r .is-idle) at f in omega arith
+    empty = let f = mode-ranges (c .control .mode) (c .control .fifo) (chip-ranges c (ready .is-valid) .control .fifo) .at-most in let m : c .control .fifo .level ≤ 0 = rw (ready .is-idle) at f in omega arith
 
     -- the chip that has taken Speak
     speaking : Chip
     speaking = writeOf image c (s .byte) .chip
 
-    still : Still speaking
+    still : Still r speaking
     still = record {
-      is-valid = write-keeps-valid image c (s .byte) (r .is-valid);
-      calm = subst (λ (w : Written). Calm (w .chip .control)) (sym taken) (record { mode = refl; level = empty; pending = refl });
+      is-valid = write-keeps-valid image c (s .byte) (ready .is-valid);
+      calm = subst (λ (w : Written). Calm r (w .chip .control)) (sym taken) (record { mode = refl; level = empty; pending = refl; rate = ready .at-rate });
     }
 
     begins : chipSpeech speaking ≡ talkingFrom (8 * a) (c .control .clock)
     begins =
         ap (λ (w : Written). chipSpeech (w .chip)) taken
-        ∙ ap (λ (p : ℕ). talkingFrom p (c .control .clock)) (r .at-byte)
+        ∙ ap (λ (p : ℕ). talkingFrom p (c .control .clock)) (ready .at-byte)
 
-    answers : (fs : List Frame) → There (itemCode chipForm) image (8 * a) (map plain fs) → AnswersDue image a fs speaking
-    answers fs there =
-        answers-due chipForm (plain-keeps pitchBits) (chipTable image) image (chipOn image) chipSpeech Still (chip-speaks image i) (8 * a) (map plain fs) there speaking
+    answers : (is : List Item) → ItemsThere pitchBits r image a is → AnswersDue (ratedForm r) image a is speaking
+    answers is there =
+        answers-due (ratedForm r) (rate-keeps r pitchBits) (chipTable image) image (chipOn image) chipSpeech (Still r) (chip-speaks image i r) (8 * a) is there speaking
         (c .control .clock) still begins

@@ -4,4 +4,6 @@ pub mod Moves
 pub mod Answers
 pub mod Instance
 pub mod Demand3
+pub mod Demand3Rated
 pub mod Example
+pub mod ExampleRated

@@ -1,87 +1,80 @@
 -- A step of the chip's control, of a chip that speaks from ROM or is idle, is a step of speech from ROM.
 -- Assumes nothing.
-use mathlib.Core.Path.{_≡_, refl, sym, ap, _∙_, subst₂}
-use mathlib.Core.Bool.{Bool, true, false}
+use mathlib.Core.Path.{_≡_, refl, sym, ap, _∙_, subst, subst₂}
+use mathlib.Core.Bool.{true, false}
 use mathlib.Core.List.{List}
 use Prim.Native.Nat.{ℕ}
 use native.Mathlib.Omega.{arith}
-use borrow.Author.Tests.{eqb-true}
-use lib.Dec.{eqb}
-use Rattle.base.proofs.Booleans.{both-true, either-way, cond-true, cond-false}
+use Rattle.base.proofs.Booleans.{either-way, cond-true, cond-false}
 use Rattle.rom.specs.Frames.{pitchBits, isStop}
-use Rattle.rom.specs.Reader.{frameAt}
-use Rattle.rom.specs.Prefix.{withPrefix}
-use Rattle.rom.specs.declared.reader.FrameAnswer.{FrameAnswer}
-use Rattle.rom.specs.declared.reader.FrameAnswer.the-variants.{Whole, Cut}
-use Rattle.clock.specs.Counters.{counted, intervalBegins, frameBegins}
-use Rattle.clock.specs.declared.Clock.{Clock}
-use Rattle.schedule.specs.Types.{tells, Speech, Spoken}
-use Rattle.schedule.specs.Speech.{begun, byAnswer, spoken}
-use Rattle.schedule.proofs.Plain.{plain-read}
+use Rattle.rom.specs.Items.{ItemAnswer, whole, cut}
+use Rattle.clock.specs.Counters.{frameBegins}
+use Rattle.rates.specs.Form.{Form, Item, readItem}
+use Rattle.rates.specs.declared.rate.FrameRate.{FrameRate}
+use Rattle.schedule.specs.Types.{tellsRated, Speech, Spoken}
+use Rattle.schedule.specs.Speech.{byAnswer, spoken}
 use Rattle.schedule.proofs.Keeping.{spoken-silent, spoken-within, spoken-rests, spoken-reads}
+use Rattle.control.specs.Device.{rateOf}
 use Rattle.control.specs.Validity.{speaks}
 use Rattle.control.specs.declared.state.Mode.{Mode}
 use Rattle.control.specs.declared.state.Mode.the-variants.{Idle, Rom, Waiting, External}
 use Rattle.control.specs.declared.state.Control.{Control}
-use Rattle.speech.specs.Advance.{fromRom, rested, boundaryIn, advanced}
+use Rattle.speech.specs.Advance.{fromRom, formOf, rested, boundaryIn, advanced}
 use Rattle.speech.specs.declared.advance.Moved.{Moved}
-use Rattle.claims.specs.Device.{chipForm, modeOf}
+use Rattle.claims.specs.Device.{ratedForm, modeOf}
 
 -- what the control has of speech
 abbrev pub speechOf : Control → Speech
 speechOf k = record { talking = speaks (k .mode); position = k .address .position; clock = k .clock }
 
--- neither external mode, no byte held, no data pending
-pub record Calm (k : Control) : Type 0 where
+-- neither external mode, no byte held, no data pending, and frames at the rate r
+pub record Calm (r : FrameRate) (k : Control) : Type 0 where
   pub mode : k .mode ≡ modeOf (speaks (k .mode))
   pub level : k .fifo .level ≡ 0
   pub pending : k .port .pending ≡ false
+  pub rate : rateOf (k .device) ≡ r
 
 -- the two agree, and the control stays calm
-pub record Same (d : Moved) (e : Spoken) : Type 0 where
-  pub calm : Calm (d .control)
+pub record Same (r : FrameRate) (d : Moved) (e : Spoken) : Type 0 where
+  pub calm : Calm r (d .control)
   pub speech : speechOf (d .control) ≡ e .speech
-  pub told : tells (d .report) ≡ e .told
+  pub told : tellsRated (d .details .rate) (d .report) ≡ e .told
 
-module _ (image : List ℕ) (k : Control) (h : Calm k) where
+module _ (image : List ℕ) (r : FrameRate) (k : Control) (h : Calm r k) where
+  -- the form of the device's frames
+  abbrev form : Form
+  form = formOf pitchBits k
+
   abbrev Moves : Type 0
-  Moves = Same (advanced pitchBits image k) (spoken chipForm image (speechOf k))
+  Moves = Same r (advanced pitchBits image k) (spoken form image (speechOf k))
 
   -- only the clock moves
-  counts : {d : Moved} {e : Spoken} → advanced pitchBits image k ≡ d → spoken chipForm image (speechOf k) ≡ e
+  counts : {d : Moved} {e : Spoken} → advanced pitchBits image k ≡ d → spoken form image (speechOf k) ≡ e
       → k .mode ≡ d .control .mode → k .fifo .level ≡ d .control .fifo .level → k .port .pending ≡ d .control .port .pending
-      → speechOf (d .control) ≡ e .speech → tells (d .report) ≡ e .told → Moves
-  counts a b m l p s t =
-      subst₂ Same (sym a) (sym b)
+      → k .device ≡ d .control .device → speechOf (d .control) ≡ e .speech → tellsRated (d .details .rate) (d .report) ≡ e .told → Moves
+  counts a b m l p v s t =
+      subst₂ (Same r) (sym a) (sym b)
       (record {
-        calm = record { mode = sym m ∙ h .mode ∙ ap (λ (x : Mode). modeOf (speaks x)) m; level = sym l ∙ h .level; pending = sym p ∙ h .pending };
+        calm = record {
+          mode = sym m ∙ h .mode ∙ ap (λ (x : Mode). modeOf (speaks x)) m;
+          level = sym l ∙ h .level;
+          pending = sym p ∙ h .pending;
+          rate = ap rateOf (sym v) ∙ h .rate;
+        };
         speech = s;
         told = t;
       })
 
-  -- at a boundary the interval is 0, as a frame that skips none has it
-  begun-same : frameBegins (k .clock) ≡ true → k .clock ≡ begun 0 (k .clock)
-  begun-same e =
-      let z = eqb-true (k .clock .interval .0) 0 (both-true (intervalBegins (k .clock)) (eqb (k .clock .interval .0) 0) e .1) in
-      λ j. record { sounding = k .clock .sounding; sample = k .clock .sample; interval = record { 0 = z j } }
-
-  by-answer : k .mode ≡ Rom → frameBegins (k .clock) ≡ true → (x : FrameAnswer)
-      → Same (fromRom image k x) (byAnswer chipForm image (speechOf k) (withPrefix 0 x))
-  by-answer m b (Whole f next) =
+  by-answer : k .mode ≡ Rom → (x : ItemAnswer Item) → Same r (fromRom image k x) (byAnswer form image (speechOf k) x)
+  by-answer m (whole (q, f) next) =
       either-way (isStop f)
-      (λ e. record { calm = record { mode = rw e; level = rw e; pending = h .pending }; speech = rw e (begins false); told = refl })
+      (λ e. record { calm = record { mode = rw e; level = rw e; pending = h .pending; rate = h .rate }; speech = rw e; told = refl })
       (λ e. record {
-        calm = record { mode = rw (e, m); level = rw e (h .level); pending = h .pending };
-        speech = rw (e, m) (begins true);
+        calm = record { mode = rw (e, m); level = rw e (h .level); pending = h .pending; rate = h .rate };
+        speech = rw (e, m);
         told = refl;
       })
-    where
-      after : Bool → Clock → Speech
-      after t c = record { talking = t; position = next; clock = counted c }
-
-      begins : (t : Bool) → after t (k .clock) ≡ after t (begun 0 (k .clock))
-      begins t = ap (after t) (begun-same b)
-  by-answer m b Cut = record { calm = record { mode = refl; level = h .level; pending = h .pending }; speech = refl; told = refl }
+  by-answer m cut = record { calm = record { mode = refl; level = h .level; pending = h .pending; rate = h .rate }; speech = refl; told = refl }
 
   -- at a boundary, by the mode
   module _ (o : k .clock .sounding ≡ true) (b : frameBegins (k .clock) ≡ true) where
@@ -91,25 +84,26 @@ module _ (image : List ℕ) (k : Control) (h : Calm k) where
 
     resting : {m : Mode} → k .mode ≡ m → speaks m ≡ false → boundaryIn pitchBits m image k ≡ rested k → Moves
     resting e n r =
-        counts (at-boundary e ∙ r) (spoken-rests chipForm image (speechOf k) o b (ap speaks e ∙ n)) refl refl refl refl refl
+        counts (at-boundary e ∙ r) (spoken-rests form image (speechOf k) o b (ap speaks e ∙ n)) refl refl refl refl refl refl
 
     boundary : (m : Mode) → k .mode ≡ m → Moves
     boundary Idle e = resting e refl refl
     boundary Rom e =
-        subst₂ Same (sym (at-boundary e))
-        (sym (spoken-reads chipForm image (speechOf k) o b (ap speaks e)
-        ∙ ap (byAnswer chipForm image (speechOf k)) (plain-read pitchBits image (k .address .position))))
-        (by-answer e b (frameAt pitchBits image (k .address .position)))
+        subst₂ (Same r) (sym (at-boundary e)) (sym (spoken-reads form image (speechOf k) o b (ap speaks e)))
+        (by-answer e (readItem form image (k .address .position)))
     boundary Waiting e = resting e refl refl
     boundary External e =
         let z : External ≡ Rom = sym e ∙ h .mode ∙ ap (λ (m : Mode). modeOf (speaks m)) e in
         let y : _≡_ {A = ℕ} 0 1 = cc in
         absurd (omega arith)
 
-  pub moves : Moves
+  by-device : Moves
   unfolding advanced
-  moves =
+  by-device =
       either-way (k .clock .sounding)
       (λ o. either-way (frameBegins (k .clock)) (λ f. boundary o f (k .mode) refl)
-      (λ f. counts (cond-true _ _ _ o ∙ cond-false _ _ _ f) (spoken-within chipForm image (speechOf k) o f) refl refl refl refl refl))
-      (λ o. counts (cond-false _ _ _ o) (spoken-silent chipForm image (speechOf k) o) refl refl refl refl refl)
+      (λ f. counts (cond-true _ _ _ o ∙ cond-false _ _ _ f) (spoken-within form image (speechOf k) o f) refl refl refl refl refl refl))
+      (λ o. counts (cond-false _ _ _ o) (spoken-silent form image (speechOf k) o) refl refl refl refl refl refl)
+
+  pub moves : Same r (advanced pitchBits image k) (spoken (ratedForm r) image (speechOf k))
+  moves = subst (λ (x : FrameRate). Same r (advanced pitchBits image k) (spoken (ratedForm x) image (speechOf k))) (h .rate) by-device

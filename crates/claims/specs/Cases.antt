@@ -18,7 +18,7 @@ pub record Case : Type 0 where
   pub paper : List ℤ
 
 -- numbers that are not negative
-abbrev numbers : List ℕ → List ℤ
+abbrev pub numbers : List ℕ → List ℤ
 numbers = map pos
 
 -- refusal number, bits and frames of a walk

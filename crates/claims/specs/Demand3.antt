@@ -2,7 +2,7 @@
 -- bit, whatever is called in between.
 use mathlib.Core.Path.{_≡_}
 use mathlib.Core.Logic.{_↔_}
-use mathlib.Core.Bool.{true, false}
+use mathlib.Core.Bool.{true}
 use mathlib.Core.List.{List, [], _∷_, _++_, map}
 use Prim.Native.Nat.{ℕ, _+_, _*_, _/_, _%_, _≤_, _<_}
 use lib.ListN.{length}
@@ -12,19 +12,16 @@ use Rattle.rom.specs.Frames.{pitchBits}
 use Rattle.rom.specs.Items.{bitsAll}
 use Rattle.rom.specs.Phrases.{frameCode, PhraseAt, FramesThere, walkAccepted, walkOf}
 use Rattle.rom.specs.declared.frames.Frame.{Frame}
-use Rattle.schedule.specs.Form.{plain}
+use Rattle.rates.specs.Form.{plain}
 use Rattle.schedule.specs.Schedule
-use Rattle.schedule.specs.Calls
 use Rattle.schedule.specs.Calls.{Call, Answer}
 use Rattle.control.specs.Commands.{commandOf}
-use Rattle.control.specs.declared.state.Mode.the-variants.{Idle}
 use Rattle.control.specs.declared.commands.Command.the-variants.{LoadAddress, Speak}
 use Rattle.chip.specs.State.{powerUp}
-use Rattle.chip.specs.Validity.{valid}
-use Rattle.chip.specs.Write.{writeOf}
 use Rattle.chip.specs.declared.state.Chip.{Chip}
 use Rattle.claims.specs.Writes.{afterBytes, refusalsOf}
-use Rattle.claims.specs.Device.{chipForm, chipOn, chipTable}
+use Rattle.claims.specs.Device.{chipForm}
+use Rattle.claims.specs.Answers
 
 -- ---- the five loads and Speak
 
@@ -62,28 +59,24 @@ pub record SpeakByte : Type 0 where
 abbrev pub speaking : List ℕ → {a : ℕ} → Loads a → SpeakByte → Chip
 speaking image l s = afterBytes image powerUp (loadBytes l ++ (s .byte ∷ []))
 
--- ---- the calls, and what is due of the frames fs at byte a; the crate `schedule` defines both over any form of frames
-
--- the answers to a list of calls: each call gets the chip that the last one handed back, and the same image
-abbrev pub answersOf : List ℕ → Chip → List Call → List Answer
-answersOf image = Calls.answersOf (chipOn image)
+-- ---- what is due of the frames fs at byte a
 
 module _ (image : List ℕ) (a : ℕ) (fs : List Frame) where
   -- the written bytes of a list are those that the refusal table refuses there, the first call being after n steps
   abbrev pub WritesRefused : ℕ → List Call → Type 0
-  WritesRefused = Calls.WritesRefused chipForm (chipTable image) (8 * a) (8 * length image) (map plain fs)
+  WritesRefused = Answers.WritesRefused chipForm image a (map plain fs)
 
   -- the answers that are due to a list of calls, the first of them after n steps
   abbrev pub answersDue : ℕ → List Call → List Answer
-  answersDue = Calls.answersDue chipForm (chipTable image) (8 * a) (8 * length image) (map plain fs)
+  answersDue = Answers.answersDue chipForm image a (map plain fs)
 
   -- every list of calls on the chip c, whose written bytes are refused there, gets the answers that are due
   abbrev pub AnswersDue : Chip → Type 0
-  AnswersDue c = (xs : List Call) → WritesRefused 0 xs → answersOf image c xs ≡ answersDue 0 xs
+  AnswersDue = Answers.AnswersDue chipForm image a (map plain fs)
 
   -- the position after n steps: 8a plus the bits of the frames due so far, or the image's end after running out
   abbrev pub positionDue : ℕ → ℕ
-  positionDue = Schedule.positionAfter chipForm (8 * a) (8 * length image) (map plain fs)
+  positionDue = Answers.positionDue chipForm image a (map plain fs)
 
 -- the step of the end: the stop's or, without one, running out, where the next frame would be due
 abbrev pub endStep : List Frame → ℕ
@@ -92,29 +85,6 @@ endStep fs = Schedule.endStep chipForm (map plain fs)
 -- the bits of frames, as many as the table of kinds gives them
 abbrev pub totalBits : List Frame → ℕ
 totalBits fs = length (bitsAll (frameCode pitchBits) fs)
-
--- ---- the opening and the core, each a theorem of its own
-
--- a chip from which Speak begins at byte a: valid and idle, without pending data, its position the byte's first bit
-pub record Ready (a : ℕ) (c : Chip) : Type 0 where
-  pub is-valid : valid c ≡ true
-  pub is-idle : c .control .mode ≡ Idle
-  pub no-data : c .control .port .pending ≡ false
-  pub at-byte : c .control .address .position ≡ 8 * a
-
--- The opening: power-up takes the five loads, and the chip is then ready at a.
-abbrev pub Opening : Type 0
-Opening =
-    (image : List ℕ) (a : ℕ) → imageValid image ≡ true → a < length image → (l : Loads a)
-    → (refusalsOf image powerUp (loadBytes l) ≡ TAKEN ∷ TAKEN ∷ TAKEN ∷ TAKEN ∷ TAKEN ∷ [])
-    × Ready a (afterBytes image powerUp (loadBytes l))
-
--- The core: a chip that is ready at a takes Speak, and then every list of calls gets the answers that are due.
-abbrev pub Core : Type 0
-Core =
-    (image : List ℕ) (a : ℕ) → imageValid image ≡ true → a < length image → (c : Chip) → Ready a c → (s : SpeakByte)
-    → (writeOf image c (s .byte) .refusal ≡ TAKEN)
-    × ((fs : List Frame) → FramesThere pitchBits image a fs → AnswersDue image a fs (writeOf image c (s .byte) .chip))
 
 -- ---- the statement
 

@@ -1,11 +1,12 @@
--- The TMS5220 and TMS5200 as a device of demand 3's list.
+-- The chip as a device of demand 3's list: the TMS5220 and TMS5200, and the TMS5220C.
 use mathlib.Core.Bool.{Bool, cond}
 use mathlib.Core.List.{List, [], _∷_}
 use Prim.Native.Nat.{ℕ}
 use Rattle.base.specs.Refusals.{WAIT, BEYOND, firstFault}
 use Rattle.rom.specs.Frames.{pitchBits}
-use Rattle.schedule.specs.Form.{Form, plainForm}
-use Rattle.schedule.specs.Types.{Told, tells}
+use Rattle.rates.specs.Form.{Form, plainForm, rateForm}
+use Rattle.rates.specs.declared.rate.FrameRate.{FrameRate}
+use Rattle.schedule.specs.Types.{Told, tellsRated}
 use Rattle.schedule.specs.Calls.{Device, Table}
 use Rattle.voice.specs.Check.{voiceFault, version}
 use Rattle.control.specs.Commands.{commandOf, waits, beyond}
@@ -21,15 +22,19 @@ use Rattle.chip.specs.declared.read.ByteRead.{ByteRead}
 use Rattle.chip.specs.declared.step.Stepped.{Stepped}
 use Rattle.chip.specs.declared.run.Ran.{Ran}
 
--- its frames: without a prefix, each of 8 intervals, which are 200 samples
+-- the frames of the TMS5220 and TMS5200: without a prefix, each of 8 intervals, which are 200 samples
 abbrev pub chipForm : Form
 chipForm = plainForm pitchBits
 
+-- and of the TMS5220C, at a frame rate
+abbrev pub ratedForm : FrameRate → Form
+ratedForm r = rateForm r pitchBits
+
 -- ---- what its operations give
 
--- of a step: the chip handed back, the refusal number, the report
+-- of a step: the chip handed back, the refusal number, the report and its rate bits
 abbrev pub stepGives : Stepped → Chip × (ℕ × Told)
-stepGives r = (r .chip, (r .refusal, tells (r .report)))
+stepGives r = (r .chip, (r .refusal, tellsRated (r .details .rate) (r .report)))
 
 -- of a run
 abbrev pub runGives : Ran → Chip × ℕ

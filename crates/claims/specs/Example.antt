@@ -12,7 +12,8 @@ use Rattle.reports.specs.declared.Report.{Report}
 use Rattle.reports.specs.declared.Report.the-variants.{Nothing as NoReport, Frame as FrameReport, Stop as StopReport, RanOut}
 use Rattle.schedule.specs.Types.{tells}
 use Rattle.schedule.specs.Calls.{Call, step, run, read, write, Answer}
-use Rattle.claims.specs.Demand3.{Loads, SpeakByte, speaking, answersOf, answersDue, WritesRefused}
+use Rattle.claims.specs.Answers.{answersOf}
+use Rattle.claims.specs.Demand3.{Loads, SpeakByte, speaking, answersDue, WritesRefused}
 
 -- a valid voice file: length 497, version 1; 15 energies and the first pitch 0, 63 pitches of 257, K values 0; one pulse, of 64
 unfoldable pub voice : List ℕ

@@ -1,5 +1,10 @@
 pub mod Writes
 pub mod Cases
+pub mod CasesRated
 pub mod Device
+pub mod Answers
 pub mod Demand3
+pub mod Opening
+pub mod Demand3Rated
 pub mod Example
+pub mod ExampleRated
