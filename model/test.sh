@@ -18,7 +18,7 @@ for size in 0 1 2 5 10 100 1000 10000 100000 1048575 1048576 1048577 3000000; do
         if [ "$letters" = all ]; then
             head -c "$size" /dev/urandom > "$scratch/script"
         else
-            head -c $((size * 26 + 1000)) /dev/urandom | LC_ALL=C tr -dc 'PRTW' | head -c "$size" > "$scratch/script"
+            head -c $((size * 26 + 1000)) /dev/urandom | LC_ALL=C tr -dc 'PQRTW' | head -c "$size" > "$scratch/script"
         fi
         target/debug/model < "$scratch/script" > "$scratch/debug"
         target/model-rustc < "$scratch/script" > "$scratch/release"
@@ -34,7 +34,7 @@ printf 'bad script\n' | cmp - "$scratch/over"
 printf 'P' | target/model-rustc > "$scratch/power"
 {
     printf 'P 0\nC'
-    for n in $(seq 63); do
+    for n in $(seq 66); do
         if [ "$n" = 28 ]; then printf ' 8191'; else printf ' 0'; fi
     done
     printf '\n'

@@ -2,6 +2,7 @@
 
 use crate::frame::{bit_of_byte, field, take_frame, Frame};
 use crate::numbers::*;
+use crate::rate::*;
 use crate::rom::*;
 
 // 01: "The position counts bits, 0 to 2,097,152."
@@ -23,7 +24,8 @@ pub const ZERO_VALUES: Values = Values { energy: 0, pitch: 0, k: [0; 11] };
 
 /// 01: "The chip is one value that each operation takes and hands back."
 /// The fields in the order of the trace format; flags are 0 or 1. Filter
-/// memory 1..10 stands at 1..10 (place 0 is unused and 0).
+/// memory 1..10 stands at 1..10 (place 0 is unused and 0). The TMS5220 has no
+/// frame rate; its v and rr are 0 (D 73).
 #[derive(Clone, Copy, PartialEq, Debug)]
 pub struct Chip {
     pub mode: i64,
@@ -43,12 +45,16 @@ pub struct Chip {
     pub currents: Values,
     pub targets: Values,
     pub memory: [i64; 11],
+    pub device: i64,
+    pub v: i64,
+    pub rr: i64,
 }
 
 /// 01: "Reset gives the power-up state: idle, silent, empty FIFO, position 0,
 /// no data byte, no interrupt." The nibble is the lowest: "Reset also
 /// restart[s] it". Silent is the sound at rest (D 51).
-pub fn power_up() -> Chip {
+/// 5: "Power-up and Reset mean v = 0, rr = 00."
+pub fn power_up_of(device: i64) -> Chip {
     let chip = Chip {
         mode: IDLE,
         position: 0,
@@ -67,8 +73,16 @@ pub fn power_up() -> Chip {
         currents: ZERO_VALUES,
         targets: ZERO_VALUES,
         memory: [0; 11],
+        device,
+        v: 0,
+        rr: 0,
     };
     put_to_rest(chip)
+}
+
+/// The device of document 01.
+pub fn power_up() -> Chip {
+    power_up_of(TMS5220)
 }
 
 // ---------------------------------------------------------------- sound at rest
@@ -145,17 +159,20 @@ fn state_holds(chip: &Chip) -> bool {
         && silent_mode_holds(chip)
         && no_data_holds(chip)
         && data_mode_holds(chip)
+        && v_holds(chip.v)
+        && rr_holds(chip.rr)
 }
 
 /// No range of 01, only what the trace format promises of each state:
-/// "mode 0..3; pending, interrupt, sounding 0 or 1; 8 bits for [..] data byte
-/// and FIFO bytes". Within the promise this is always true: the interrupt
+/// "mode 0..3; pending, interrupt, sounding, device [..] 0 or 1; 8 bits for
+/// [..] data byte, FIFO bytes". Within the promise this is always true: the interrupt
 /// has no range (D 52), nor has the mode one (D 15).
 fn fields_fit(chip: &Chip) -> bool {
     (0..=3).contains(&chip.mode)
         && (0..=1).contains(&chip.pending)
         && (0..=1).contains(&chip.interrupt)
         && (0..=1).contains(&chip.sounding)
+        && (TMS5220..=TMS5220C).contains(&chip.device)
         && (0..=255).contains(&chip.data)
         && chip.fifo.iter().all(|byte| (0..=255).contains(byte))
 }
@@ -273,7 +290,7 @@ fn fifo_end(chip: &Chip) -> i64 {
 
 /// The whole frame that the FIFO's bits begin with and its width, or none.
 pub fn fifo_frame(chip: &Chip) -> Option<(Frame, i64)> {
-    take_frame(&|at| fifo_bit(chip, at), chip.used, fifo_end(chip))
+    take_frame(&|at| fifo_bit(chip, at), chip.used, fifo_end(chip), chip.v)
 }
 
 /// Whether a frame of this width leaves no bit in the FIFO.
@@ -329,6 +346,9 @@ const LOAD_ADDRESS: i64 = 0b100;
 const SPEAK: i64 = 0b101;
 const SPEAK_EXTERNAL: i64 = 0b110;
 const RESET: i64 = 0b111;
+// 5: "Load Frame Rate, byte x0x0xvrr": 000 and 010 on the TMS5220C.
+const LOAD_FRAME_RATE: i64 = 0b000;
+const ALSO_LOAD_FRAME_RATE: i64 = 0b010;
 
 pub struct Written {
     pub chip: Chip,
@@ -419,9 +439,12 @@ fn written(image: &[u8], given: Chip, byte: i64) -> Chip {
         LOAD_ADDRESS => load_address(chip, byte),
         SPEAK => speak(chip),
         SPEAK_EXTERNAL => speak_external(chip),
-        // 01: "Reset gives the power-up state". (D 28, D 29)
-        RESET => power_up(),
-        // 01: "000 and 010 nothing".
+        // 01: "Reset gives the power-up state". (D 28, D 29) The device stays.
+        RESET => power_up_of(chip.device),
+        // 5: "This device obeys it in idle." In the other modes the byte is
+        // refused, or goes to the FIFO, as each command is.
+        LOAD_FRAME_RATE | ALSO_LOAD_FRAME_RATE if chip.device == TMS5220C => load_frame_rate(chip, byte),
+        // 01: "000 and 010 nothing". (D 74)
         _ => chip,
     }
 }
@@ -501,6 +524,13 @@ fn speak(chip: Chip) -> Chip {
 /// next nibble stays (D 25).
 fn speak_external(chip: Chip) -> Chip {
     Chip { mode: WAITING, ..chip }
+}
+
+/// Load Frame Rate: rr is held as written, also with v = 1 (D 70). The next
+/// nibble stays (D 74), and so does a frame that is sounding: its length was
+/// settled when it was taken.
+fn load_frame_rate(chip: Chip, byte: i64) -> Chip {
+    Chip { v: v_of_byte(byte), rr: rr_of_byte(byte), ..chip }
 }
 
 // ---------------------------------------------------------------- status, a byte read

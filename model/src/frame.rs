@@ -16,19 +16,23 @@ pub const REPEAT_BITS: i64 = 1;
 pub const PITCH_BITS: i64 = 6;
 // 01: "K1 to K10: 5,5,4,4,4,4,4,3,3,3". Place 0 is unused, so that Ki is at i.
 pub const K_BITS: [i64; 11] = [0, 5, 5, 4, 4, 4, 4, 4, 3, 3, 3];
+// 5: "two rate bits".
+pub const RATE_BITS: i64 = 2;
 
 /// A kind and its indexes. K1..K10 stand at 1..10, place 0 is unused.
 /// trace: "an index that the kind doesn't carry is 0 (a stop's energy is 15).
 /// No frame: thirteen zeros." (D 50)
+/// The rate is 0 where the bits have none (D 71).
 #[derive(Clone, Copy, PartialEq, Debug)]
 pub struct Frame {
     pub kind: i64,
     pub energy: i64,
     pub pitch: i64,
     pub k: [i64; 11],
+    pub rate: i64,
 }
 
-pub const NO_FRAME: Frame = Frame { kind: NONE, energy: 0, pitch: 0, k: [0; 11] };
+pub const NO_FRAME: Frame = Frame { kind: NONE, energy: 0, pitch: 0, k: [0; 11], rate: 0 };
 
 /// Where a frame's bits come from: the bit at a place, and the place after
 /// the last bit.
@@ -67,15 +71,26 @@ pub fn bit_of_byte(byte: i64, from_top: i64) -> i64 {
 
 /// 01: "A frame is taken whole or refused."
 /// The frame that begins at `start` and its width in bits, or none if the
-/// bits end inside it or before its first bit (D 38).
-pub fn take_frame(bit: &dyn Fn(i64) -> i64, start: i64, end: i64) -> Option<(Frame, i64)> {
+/// bits end inside it or before its first bit (D 38). The rate bits, if there
+/// are any, count (D 107).
+pub fn take_frame(bit: &dyn Fn(i64) -> i64, start: i64, end: i64, v: i64) -> Option<(Frame, i64)> {
     let mut taker = Taker { bit, at: start, end };
-    let frame = fields(&mut taker)?;
+    let frame = fields(&mut taker, v)?;
     Some((frame, taker.at - start))
 }
 
-fn fields(taker: &mut Taker) -> Option<Frame> {
+/// 5: "with v = 1 every frame, silence and stop included, starts with two rate
+/// bits".
+fn take_rate(taker: &mut Taker, v: i64) -> Option<i64> {
+    if v == 1 {
+        return taker.next(RATE_BITS);
+    }
+    Some(0)
+}
+
+fn fields(taker: &mut Taker, v: i64) -> Option<Frame> {
     let mut frame = NO_FRAME;
+    frame.rate = take_rate(taker, v)?;
     frame.energy = taker.next(ENERGY_BITS)?;
     // 01: "silence | energy 0 | 4"
     if frame.energy == 0 {

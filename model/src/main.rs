@@ -1,9 +1,10 @@
-//! A second program for document 01: it reads a trace script on standard
-//! input and prints the answers on standard output.
+//! A second program for document 01 and document 02's §5: it reads a trace
+//! script on standard input and prints the answers on standard output.
 
 mod chip;
 mod frame;
 mod numbers;
+mod rate;
 mod rom;
 mod sound;
 mod trace;

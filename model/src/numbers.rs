@@ -1,8 +1,8 @@
 //! Refusal numbers and device numbers. Every number is an i64.
 //!
-//! In all files: `01:` stands before words of document 01, `D n` is a
-//! number of the list of decisions, `trace:` stands before words of the
-//! trace format.
+//! In all files: `01:` stands before words of document 01, `5:` before words
+//! of document 02's §5, `D n` is a number of the list of decisions, `trace:`
+//! stands before words of the trace format.
 
 // 01: "Refusal numbers", column "No." and column "Name".
 pub const TAKEN: i64 = 0;
@@ -32,6 +32,11 @@ pub const NOTHING: i64 = 0;
 pub const FRAME: i64 = 1;
 pub const STOPPED: i64 = 2;
 pub const RAN_OUT: i64 = 3;
+
+// 5: "The 5220C."
+// trace: "device: 0 TMS5220, 1 TMS5220C".
+pub const TMS5220: i64 = 0;
+pub const TMS5220C: i64 = 1;
 
 // 01: "25 samples make an interval, 8 intervals a frame".
 pub const SAMPLES_PER_INTERVAL: i64 = 25;

@@ -2,6 +2,7 @@
 
 use crate::frame::*;
 use crate::numbers::*;
+use crate::rate::*;
 
 // 01: "image length 0 or above 262,144".
 const MOST_IMAGE_BYTES: i64 = 262_144;
@@ -44,8 +45,8 @@ pub fn rom_bit(image: &[u8], position: i64) -> i64 {
 }
 
 /// The whole frame at a position of the image with its width, or none.
-pub fn rom_frame(image: &[u8], position: i64) -> Option<(Frame, i64)> {
-    take_frame(&|at| rom_bit(image, at), position, end(image))
+pub fn rom_frame(image: &[u8], position: i64, v: i64) -> Option<(Frame, i64)> {
+    take_frame(&|at| rom_bit(image, at), position, end(image), v)
 }
 
 /// 01: "A refused call returns [..] zero for each number, no frame".
@@ -59,18 +60,26 @@ fn frame_refused(refusal: i64) -> FrameTaken {
     FrameTaken { refusal, bits: 0, frame: NO_FRAME }
 }
 
-/// "a frame taken at a bit": 01, "The module".
+/// "a frame taken at a bit": 01, "The module". On the TMS5220 no frame has
+/// rate bits.
 /// The order of checks is 3, then 2, then 10 (D 49).
 pub fn frame_at(image: &[u8], bit: i64) -> FrameTaken {
+    rated_frame_at(image, 0, bit)
+}
+
+/// 5: "[is told], a frame taken at a bit v (4 if out of range)".
+/// The order of checks is 3, 4, then 2, then 10 (D 72).
+pub fn rated_frame_at(image: &[u8], v: i64, bit: i64) -> FrameTaken {
     let refusal = first_refusal(&[
         &|| image_refusal(image),
+        &|| told_v_refusal(v),
         &|| frame_beyond(image, bit),
     ]);
     if refusal != TAKEN {
         return frame_refused(refusal);
     }
     // 01: "NO PHRASE | [..] frame taken: the bits end inside it".
-    let Some((frame, bits)) = rom_frame(image, bit) else {
+    let Some((frame, bits)) = rom_frame(image, bit, v) else {
         return frame_refused(NO_PHRASE);
     };
     FrameTaken { refusal: TAKEN, bits, frame }
@@ -103,10 +112,18 @@ fn walk_refused(refusal: i64) -> Walked {
     Walked { refusal, bits: 0, frames: 0, intervals: 0, samples: 0, part_from: 0, part_to: 0 }
 }
 
-/// "a phrase walk over an image": 01, "The module".
+/// "a phrase walk over an image": 01, "The module". On the TMS5220 each frame
+/// is a long one.
 pub fn walk(image: &[u8], address: i64) -> Walked {
+    rated_walk(image, 0, 0, address)
+}
+
+/// 5: "The walk is told v and rr [..] (4 if out of range), and durations follow
+/// the rates." 4 comes after 3 and ahead of 2 (D 72).
+pub fn rated_walk(image: &[u8], v: i64, rr: i64, address: i64) -> Walked {
     let refusal = first_refusal(&[
         &|| image_refusal(image),
+        &|| told_rates_refusal(v, rr),
         &|| walk_beyond(image, address),
     ]);
     if refusal != TAKEN {
@@ -116,20 +133,21 @@ pub fn walk(image: &[u8], address: i64) -> Walked {
     let start = BYTE * address;
     let mut at = start;
     let mut frames = 0;
+    let mut intervals = 0;
     loop {
         // 01: "NO PHRASE | walk: the bits end before a stop".
-        let Some((frame, bits)) = rom_frame(image, at) else {
+        let Some((frame, bits)) = rom_frame(image, at, v) else {
             return walk_refused(NO_PHRASE);
         };
         at += bits;
         frames += 1;
+        // 01: "intervals (8 each)"; 5: "durations follow the rates".
+        intervals += intervals_of(frame_rate(v, rr, &frame));
         if frame.kind == STOP {
             break;
         }
     }
-    // 01: "intervals (8 each) and samples (200 each)": 25 samples to each
-    // interval.
-    let intervals = frames * INTERVALS_PER_FRAME;
+    // 01: "samples (200 each)": 25 samples to each interval.
     let samples = intervals * SAMPLES_PER_INTERVAL;
     Walked {
         refusal: TAKEN,

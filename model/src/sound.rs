@@ -3,6 +3,7 @@
 use crate::chip::*;
 use crate::frame::*;
 use crate::numbers::*;
+use crate::rate::{frame_rate, skipped_intervals};
 use crate::rom::{end, image_refusal, rom_frame};
 use crate::voice::{tables, voice_refusal, Tables};
 
@@ -107,6 +108,7 @@ fn sounded(image: &[u8], tables: &Tables, given: Chip) -> Stepped {
         };
         frame = taken;
         chip = next;
+        chip.interval = first_interval(&chip, &frame);
         chip.targets = new_targets(&frame, tables, chip.targets);
         if frame.kind == STOP {
             chip = stop(chip);
@@ -135,8 +137,16 @@ fn report_of(frame: &Frame) -> i64 {
 }
 
 /// A frame boundary: the first sample of interval 0.
+/// 5: "a frame is taken after interval 7 and at the start." Both count 0.
 fn at_boundary(chip: &Chip) -> bool {
     chip.sample == 0 && chip.interval == 0
+}
+
+/// The interval that a frame begins with: it is interpolated with this
+/// interval's divisor, and the intervals before it are left out (D 70).
+/// 5: "A shorter frame skips the first 0, 2, 4 or 6 intervals".
+fn first_interval(chip: &Chip, frame: &Frame) -> i64 {
+    skipped_intervals(frame_rate(chip.v, chip.rr, frame))
 }
 
 // ---------------------------------------------------------------- the frame of a step
@@ -152,7 +162,7 @@ fn next_frame(image: &[u8], chip: Chip) -> Option<(Frame, Chip)> {
 /// 01: "if the ROM ends inside a frame or before its first bit" it runs out. A
 /// frame that ends exactly with the image is whole (D 40).
 fn next_rom_frame(image: &[u8], chip: Chip) -> Option<(Frame, Chip)> {
-    let (frame, width) = rom_frame(image, chip.position)?;
+    let (frame, width) = rom_frame(image, chip.position, chip.v)?;
     Some((frame, Chip { position: chip.position + width, ..chip }))
 }
 

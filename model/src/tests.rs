@@ -1,9 +1,11 @@
 //! Tests: document 01's "Numbers to try", sizes at their bounds, each refusal
-//! number, the order of checks, the traps, the trace format, garbage.
+//! number, the order of checks, the traps, the TMS5220C, the trace format,
+//! garbage.
 
 use crate::chip::*;
 use crate::frame::*;
 use crate::numbers::*;
+use crate::rate::*;
 use crate::rom::*;
 use crate::sound::*;
 use crate::trace::*;
@@ -148,6 +150,11 @@ impl Dice {
     fn chip(&mut self, image_bytes: i64) -> Chip {
         let mut chip = power_up();
         chip.mode = self.within(0, 3);
+        if self.below(2) == 0 {
+            chip.device = TMS5220C;
+            chip.v = self.within(0, 1);
+            chip.rr = self.within(0, 3);
+        }
         chip.position = match self.below(8) {
             0 => 2_097_152,
             1 => self.within(0, 2_097_152),
@@ -922,7 +929,7 @@ fn fifo_bits_leave_in_order() {
         .collect();
     assert_eq!(bytes.len(), 9);
     let stepped = taken(&[0], speech(&bytes, 0));
-    assert_eq!(stepped.frame, Frame { kind: VOICED, energy: 14, pitch: 62, k: [0, 1, 2, 3, 4, 5, 6, 7, 1, 2, 3] });
+    assert_eq!(stepped.frame, Frame { kind: VOICED, energy: 14, pitch: 62, k: [0, 1, 2, 3, 4, 5, 6, 7, 1, 2, 3], rate: 0 });
     assert_eq!((stepped.chip.level, stepped.chip.used), (3, 2));
     assert_eq!(stepped.chip.fifo[..4], [bytes[6], 0xF0, 0x0F, 0]);
     // BL rises: interrupt.
@@ -1107,6 +1114,189 @@ fn interpolation_in_steps() {
     assert_eq!(chip.targets.pitch, 80);
 }
 
+// ---------------------------------------------------------------- TMS5220C
+
+/// The TMS5220C with this v and rr.
+fn rated(v: i64, rr: i64) -> Chip {
+    Chip { v, rr, ..power_up_of(TMS5220C) }
+}
+
+#[test]
+fn load_frame_rate() {
+    let image = [0; 4];
+    // Each byte, on both devices, with data pending and a nibble.
+    for byte in 0..256 {
+        for device in [TMS5220, TMS5220C] {
+            let before = Chip { pending: 1, data: 9, nibble: 3, interrupt: 1, ..power_up_of(device) };
+            let after = writes(&image, before, &[byte]);
+            if [0x00, 0x20].contains(&(byte & 0x70)) {
+                let kept = Chip { pending: 0, data: 0, ..before };
+                let rate = if device == TMS5220C { (byte >> 2 & 1, byte & 3) } else { (0, 0) };
+                assert_eq!(after, Chip { v: rate.0, rr: rate.1, ..kept }, "byte {byte:02x}");
+            } else {
+                assert_eq!((after.device, after.v, after.rr), (device, 0, 0));
+            }
+        }
+    }
+    assert_eq!(writes(&image, power_up_of(TMS5220C), &[0x07]), rated(1, 3));
+    assert_eq!(writes(&image, rated(1, 3), &[0x20]), rated(0, 0));
+    // Other commands keep it; Reset does not, and the device stays.
+    for byte in [0x10, 0x30, 0x4F, 0x50, 0x60] {
+        let chip = writes(&image, rated(1, 2), &[byte]);
+        assert_eq!((chip.device, chip.v, chip.rr), (TMS5220C, 1, 2));
+    }
+    assert_eq!(writes(&image, rated(1, 2), &[0x70]), power_up_of(TMS5220C));
+    // Speaking from ROM it has to wait, but for Reset.
+    let speaking = writes(&image, rated(1, 2), &[0x50]);
+    for byte in [0x00, 0x07, 0x20, 0xAF] {
+        let answer = write(&image, speaking, byte);
+        assert_eq!((answer.refusal, answer.chip), (WAIT, speaking));
+    }
+    assert_eq!(writes(&image, speaking, &[0x70]), power_up_of(TMS5220C));
+    // In the external modes it is a byte for the FIFO.
+    let waiting = writes(&image, rated(1, 2), &[0x60, 0x01]);
+    assert_eq!((waiting.mode, waiting.level, waiting.fifo[0]), (WAITING, 1, 1));
+    assert_eq!((waiting.v, waiting.rr), (1, 2));
+    let speech = writes(&image, waiting, &[0; 9]);
+    assert_eq!((speech.mode, speech.level, speech.v, speech.rr), (EXTERNAL, 10, 1, 2));
+}
+
+#[test]
+fn rate_ranges() {
+    for (v, rr, refusal) in [
+        (0, 0, TAKEN),
+        (1, 3, TAKEN),
+        (2, 0, STATE),
+        (255, 0, STATE),
+        (-1, 0, STATE),
+        (0, 4, STATE),
+        (1, 4, STATE),
+        (1, 255, STATE),
+        (0, -1, STATE),
+    ] {
+        assert_eq!(state_refusal(&rated(v, rr)), refusal);
+        assert_eq!(read(rated(v, rr)).refusal, refusal);
+        assert_eq!(write(&[0], rated(v, rr), 0x70).refusal, refusal);
+        assert_eq!(step(&[0], &voice(1), rated(v, rr)).refusal, refusal);
+        assert_eq!(rated_walk(&[0xFF], v, rr, 0).refusal, refusal);
+        // 3, then 4, then 2.
+        assert_eq!(rated_walk(&[], v, rr, 1).refusal, IMAGE);
+        assert_eq!(rated_walk(&[0xFF], v, rr, 1).refusal, if refusal == TAKEN { BEYOND } else { STATE });
+        let told = told_v_refusal(v);
+        assert_eq!(rated_frame_at(&[0xFF], v, 0).refusal, told);
+        assert_eq!(rated_frame_at(&[], v, 8).refusal, IMAGE);
+        assert_eq!(rated_frame_at(&[0xFF], v, 8).refusal, if told == TAKEN { BEYOND } else { STATE });
+    }
+}
+
+/// A frame of each kind, with its width.
+const KINDS_TO_TRY: [(&str, i64, i64); 5] = [
+    ("0000", SILENCE, 4),
+    ("1111", STOP, 4),
+    ("0011 1 000101", REPEAT, 11),
+    ("0101 0 000000 10001 00001 1001 0110", UNVOICED, 29),
+    ("1110 0 111110 00001 00010 0011 0100 0101 0110 0111 001 010 011", VOICED, 50),
+];
+
+#[test]
+fn frames_with_rate_bits() {
+    for (text, kind, width) in KINDS_TO_TRY {
+        for rate in 0..4 {
+            let whole = format!("{rate:02b} {text}");
+            let image = bits(&whole);
+            let answer = rated_frame_at(&image, 1, 0);
+            assert_eq!((answer.refusal, answer.frame.kind, answer.bits), (TAKEN, kind, width + 2));
+            assert_eq!(answer.frame.rate, rate);
+            // The frame without its rate bits, but for the rate.
+            let plain = rated_frame_at(&bits(text), 0, 0);
+            assert_eq!((plain.bits, plain.frame), (width, Frame { rate: 0, ..answer.frame }));
+            // Cut after each of its bits.
+            let digits: String = whole.chars().filter(|c| *c != ' ').collect();
+            for present in 1..digits.len() {
+                let lead = (80 - present) % 8;
+                let image = bits(&format!("{}{}", "1".repeat(lead), &digits[..present]));
+                let answer = rated_frame_at(&image, 1, lead as i64);
+                assert_eq!((answer.refusal, answer.bits, answer.frame), (NO_PHRASE, 0, NO_FRAME));
+            }
+        }
+    }
+}
+
+#[test]
+fn walks_with_rates() {
+    let rates = [3, 1, 0, 2, 3];
+    let order = [4, 2, 3, 0, 1];
+    let text: String = (0..5).map(|i| format!("{:02b} {} ", rates[i], KINDS_TO_TRY[order[i]].0)).collect();
+    let image = bits(&text);
+    for rr in 0..4 {
+        let walked = rated_walk(&image, 1, rr, 0);
+        assert_eq!((walked.refusal, walked.bits, walked.frames), (TAKEN, 98 + 10, 5));
+        assert_eq!((walked.intervals, walked.samples), (2 + 6 + 8 + 4 + 2, 550));
+        assert_eq!((walked.part_from, walked.part_to), (0, 14));
+    }
+    let text: String = order.map(|i| KINDS_TO_TRY[i].0).concat();
+    let image = bits(&text);
+    for (rr, samples) in [200, 150, 100, 50].into_iter().enumerate() {
+        let walked = rated_walk(&image, 0, rr as i64, 0);
+        assert_eq!((walked.bits, walked.frames, walked.samples), (98, 5, 5 * samples));
+        assert_eq!(walked.intervals, walked.samples / 25);
+        assert_eq!((walked.part_from, walked.part_to), (0, 13));
+    }
+}
+
+#[test]
+fn short_frames_skip_the_first_intervals() {
+    for rate in 0..4 {
+        let plain = "1110 0 000101 00001 00010 0011 0100 0101 0110 0111 001 010 011 0000 1111";
+        let with_bits = format!(
+            "{rate:02b} 1110 0 000101 00001 00010 0011 0100 0101 0110 0111 001 010 011 {rate:02b} 0000 {rate:02b} 1111"
+        );
+        for (v, rr, image) in [(0, rate, bits(plain)), (1, 3 - rate, bits(&with_bits))] {
+            let length = 200 - 50 * rate;
+            let mut chip = writes(&image, rated(v, rr), &[0x50]);
+            let mut expected = 0;
+            for number in 0..3 * length {
+                let stepped = taken(&image, chip);
+                chip = stepped.chip;
+                let (frame, interval) = (number / length, number % length / 25 + 2 * rate);
+                if number % 25 == 0 {
+                    expected = nearer(expected, [980, 0, 0][frame as usize], interval);
+                }
+                assert_eq!(chip.currents.energy, expected, "rate {rate}, sample {number}");
+                let report = [FRAME, FRAME, STOPPED][frame as usize];
+                let first = number % length == 0;
+                assert_eq!(stepped.report, if first { report } else { NOTHING });
+                assert_eq!(stepped.frame.rate, if first && v == 1 { rate } else { 0 });
+            }
+            // The stop's frame has its own samples too; then it is at rest.
+            assert_eq!((chip.sounding, chip.sample, chip.interval), (1, 0, 0));
+            assert_eq!(taken(&image, chip).chip, Chip { position: chip.position, interrupt: 1, ..rated(v, rr) });
+        }
+    }
+}
+
+#[test]
+fn fifo_with_rate_bits() {
+    let speech_c = |bytes: &[i64], used: i64| Chip { device: TMS5220C, v: 1, ..speech(bytes, used) };
+    // 10 0000, then 01 1111.
+    let stepped = taken(&[0], speech_c(&[0b1000_0001, 0b1111_0000], 0));
+    assert_eq!((stepped.report, stepped.frame.kind, stepped.frame.rate), (FRAME, SILENCE, 2));
+    assert_eq!((stepped.chip.level, stepped.chip.used), (2, 6));
+    assert_eq!((stepped.chip.interval, stepped.chip.sample), (4, 1));
+    let stepped = taken(&[0], steps(&[0], stepped.chip, 99));
+    assert_eq!((stepped.report, stepped.frame.kind, stepped.frame.rate), (STOPPED, STOP, 1));
+    assert_eq!((stepped.chip.level, stepped.chip.used, stepped.chip.interval), (0, 0, 2));
+    // The bits end inside the rate bits, inside the energy, with the frame.
+    for (bytes, used) in [(vec![0xFF], 7), (vec![0xFF], 6), (vec![0xFF], 3), (vec![0xC0], 2)] {
+        let stepped = taken(&[0], speech_c(&bytes, used));
+        assert_eq!((stepped.report, stepped.frame), (RAN_OUT, NO_FRAME));
+        assert_eq!(stepped.chip, Chip { interrupt: 1, ..rated(1, 0) });
+    }
+    // A stop that ends the FIFO is a stop.
+    let stepped = taken(&[0], speech_c(&[0xFF], 2));
+    assert_eq!((stepped.report, stepped.frame.rate), (STOPPED, 3));
+}
+
 // ---------------------------------------------------------------- laws
 
 /// Refused calls return the given state, taken ones a valid one, and a run is
@@ -1145,16 +1335,21 @@ fn laws_over_valid_states() {
     }
 }
 
-/// The list of document 01's demand 3, on random images: frames, position and
-/// TS after each step are those of the walk.
+/// The list of document 01's demand 3, on random images, for both devices:
+/// frames, position and TS after each step are those of the walk.
 #[test]
 fn steps_follow_the_walk() {
     let mut dice = Dice(99);
-    for _ in 0..300 {
+    for round in 0..600 {
         let bytes = 1 + dice.below(10) as usize;
         let image = dice.bytes(bytes);
         let address = dice.below(bytes as u64) as i64;
-        let mut chip = power_up();
+        let (device, v, rr) = match round % 2 {
+            0 => (TMS5220, 0, 0),
+            _ => (TMS5220C, dice.within(0, 1), dice.within(0, 3)),
+        };
+        let mut chip = power_up_of(device);
+        chip = writes(&image, chip, &[4 * v + rr]);
         let mut rest = address;
         for _ in 0..5 {
             chip = writes(&image, chip, &[0x40 + rest % 16]);
@@ -1162,24 +1357,31 @@ fn steps_follow_the_walk() {
         }
         chip = writes(&image, chip, &[0x50]);
         let mut at = 8 * address;
+        let mut samples = 0;
+        let walked = rated_walk(&image, v, rr, address);
         loop {
-            let due = frame_at(&image, at);
+            let due = rated_frame_at(&image, v, at);
             let stepped = taken(&image, chip);
             chip = stepped.chip;
             if due.refusal != TAKEN {
                 assert_eq!((stepped.report, chip.position), (RAN_OUT, end(&image)));
-                assert_eq!(walk(&image, address).refusal, NO_PHRASE);
+                assert_eq!(walked.refusal, NO_PHRASE);
                 break;
             }
             at += due.bits;
+            let length = 25 * intervals_of(frame_rate(v, rr, &due.frame));
+            samples += length;
             assert_eq!((stepped.frame, chip.position), (due.frame, at));
             if due.frame.kind == STOP {
                 assert_eq!((stepped.report, status(&chip)), (STOPPED, 0x60));
-                assert_eq!(walk(&image, address).bits, at - 8 * address);
+                assert_eq!((walked.bits, walked.samples), (at - 8 * address, samples));
+                // The stop's frame sounds to its end.
+                chip = steps(&image, chip, length - 1);
+                assert_eq!((chip.sounding, chip.sample, chip.interval), (1, 0, 0));
                 break;
             }
             assert_eq!((stepped.report, status(&chip)), (FRAME, 0xE0));
-            chip = steps(&image, chip, 199);
+            chip = steps(&image, chip, length - 1);
             assert_eq!((chip.position, status(&chip)), (at, 0xE0));
         }
     }
@@ -1189,8 +1391,13 @@ fn steps_follow_the_walk() {
 
 /// The chip line of a powered-up chip.
 fn power_line() -> String {
+    power_line_of(TMS5220)
+}
+
+fn power_line_of(device: i64) -> String {
     let mut numbers = [0; CHIP_NUMBERS];
     numbers[27] = 8191;
+    numbers[63] = device;
     format!("C{}\n", numbers.iter().map(|number| format!(" {number}")).collect::<String>())
 }
 
@@ -1201,9 +1408,9 @@ fn trace_answers() {
     assert_eq!(played(b"R"), format!("R 0 96\n{}", power_line()));
     // The empty image and voice at first.
     assert_eq!(played(b"W\x70"), format!("W 3\n{}", power_line()));
-    assert_eq!(played(b"T"), format!("T 3 0 0{}\n{}", " 0".repeat(13), power_line()));
+    assert_eq!(played(b"T"), format!("T 3 0 0{}\n{}", " 0".repeat(14), power_line()));
     assert_eq!(played(b"U\x02\0\0\0"), format!("U 3 0\n{}", power_line()));
-    assert_eq!(played(b"I\x01\0\0\0\xFFT"), format!("I 1\nT 5 0 0{}\n{}", " 0".repeat(13), power_line()));
+    assert_eq!(played(b"I\x01\0\0\0\xFFT"), format!("I 1\nT 5 0 0{}\n{}", " 0".repeat(14), power_line()));
     assert_eq!(played(b"V\0\0\0\0"), "V 5\n");
     assert_eq!(played(&counted(b'V', &voice(1))), "V 0\n");
     assert_eq!(played(&numbered(b'F', 0)), format!("F 3 0{}\n", " 0".repeat(13)));
@@ -1232,6 +1439,29 @@ fn trace_answers() {
 }
 
 #[test]
+fn trace_rates() {
+    assert_eq!(played(b"Q"), format!("Q 0\n{}", power_line_of(TMS5220C)));
+    let none = " 0".repeat(13);
+    let image = counted(b'I', &bits("01 0000 10 0011 1 000001 11 1111"));
+    let script = [
+        image,
+        b"G\x01\0\0\0\0G\x01\x06\0\0\0G\x01\x13\0\0\0G\0\x02\0\0\0".to_vec(),
+        b"G\x02\0\0\0\0G\x01\x20\0\0\0".to_vec(),
+        b"B\x01\0\0\0\0\0B\0\x04\0\0\0\0B\0\x03\x04\0\0\0".to_vec(),
+    ]
+    .concat();
+    let sum = 0b0100_0010 + 0b0011_1000 + 0b0011_1111 + 0b1000_0000;
+    assert_eq!(
+        played(&script),
+        format!(
+            "I 4\nG 0 6 1 0 0 0 0 0 0 0 0 0 0 0 0 1\nG 0 13 3 3 1 0 0 0 0 0 0 0 0 0 0 2\n\
+             G 0 6 2 15 0 0 0 0 0 0 0 0 0 0 0 3\nG 0 4 1 0 0 0 0 0 0 0 0 0 0 0 0 0\n\
+             G 4 0{none} 0\nG 2 0{none} 0\nB 0 25 3 12 300 4 {sum}\nB 4 0 0 0 0 0 0\nB 2 0 0 0 0 0 0\n"
+        )
+    );
+}
+
+#[test]
 fn trace_runs() {
     let start = [counted(b'I', &[0xFF]), counted(b'V', &voice(3))].concat();
     let script = [start.clone(), numbered(b'U', 0), numbered(b'U', 3), numbered(b'U', 8_192), numbered(b'U', 8_193)].concat();
@@ -1251,8 +1481,8 @@ fn trace_runs() {
 
 #[test]
 fn trace_states() {
-    // All 63 numbers come back as they are, and in their places.
-    let numbers: Vec<i64> = (1..=63).collect();
+    // All 66 numbers come back as they are, and in their places.
+    let numbers: Vec<i64> = (1..=66).collect();
     let line = format!("C{}\n", numbers.iter().map(|number| format!(" {number}")).collect::<String>());
     assert_eq!(played(&state_record(&numbers)), line);
     let mut array = [0; CHIP_NUMBERS];
@@ -1263,6 +1493,12 @@ fn trace_states() {
     assert_eq!((chip.currents.energy, chip.currents.k[1], chip.currents.k[10]), (30, 32, 41));
     assert_eq!((chip.targets.energy, chip.targets.k[1], chip.targets.k[10]), (42, 44, 53));
     assert_eq!((chip.memory[1], chip.memory[10]), (54, 63));
+    assert_eq!((chip.device, chip.v, chip.rr), (64, 65, 66));
+    // A TMS5220 has no rate.
+    array[63..].copy_from_slice(&[TMS5220, 1, 3]);
+    assert_eq!(numbers_of(&chip_of(&array))[63..], [TMS5220, 0, 0]);
+    array[63] = TMS5220C;
+    assert_eq!(numbers_of(&chip_of(&array))[63..], [TMS5220C, 1, 3]);
     // Levels of 17 and 255 beside 16 bytes: refused, printed as given.
     for level in [17, 255] {
         let mut numbers = numbers_of(&speech(&[1; 16], 0));
@@ -1276,13 +1512,13 @@ fn trace_states() {
             numbered(b'U', 1),
         ]
         .concat();
-        let none = " 0".repeat(13);
+        let none = " 0".repeat(14);
         let expected = format!("I 1\nV 0\n{line}W 4\n{line}R 4 0\n{line}T 4 0 0{none}\n{line}U 4 0\n{line}");
         assert_eq!(played(&script), expected);
     }
     // The widest numbers.
     for extreme in [i64::MIN, i64::MAX] {
-        let script = [counted(b'I', &[0]), counted(b'V', &voice(1)), state_record(&[extreme; 63]), b"W\x10RT".to_vec()].concat();
+        let script = [counted(b'I', &[0]), counted(b'V', &voice(1)), state_record(&[extreme; CHIP_NUMBERS]), b"W\x10RT".to_vec()].concat();
         let text = played(&script);
         assert!(text.contains("W 4\n") && text.contains("R 4 0\n") && text.contains("T 4 0 0 0"));
     }
@@ -1290,13 +1526,14 @@ fn trace_states() {
 
 #[test]
 fn bad_scripts() {
-    for script in [&b"x"[..], b"W", b"I", b"I\x01\0\0", b"I\x01\0\0\0", b"V\xFF\xFF\xFF\xFF", b"F\0\0\0", b"A", b"U\0\0\0"] {
+    for script in [&b"x"[..], b"W", b"I", b"I\x01\0\0", b"I\x01\0\0\0", b"V\xFF\xFF\xFF\xFF", b"F\0\0\0", b"A", b"U\0\0\0", b"G\x01\0\0\0", b"B\x01\x01\0\0\0"] {
         assert_eq!(played(script), "bad script\n");
     }
     assert_eq!(played(b"U\x01\x20\0\0"), "bad script\n");
     assert_eq!(played(b"U\xFF\xFF\xFF\xFF"), "bad script\n");
     assert_eq!(played(b"V\0\0\0\0\nP"), "V 5\nbad script\n");
-    let state = state_record(&[0; 63]);
+    let state = state_record(&[0; CHIP_NUMBERS]);
+    assert_eq!(state.len(), 529);
     for cut in 1..state.len() {
         assert_eq!(played(&state[..cut]), "bad script\n");
     }
@@ -1317,11 +1554,11 @@ fn garbage() {
         played(&dice.bytes(length));
     }
     // Letters more often than by chance.
-    let letters = b"IVFAPSWRTU";
+    let letters = b"IVFAPSWRTUQGB";
     for _ in 0..3_000 {
         let mut script = Vec::new();
         for _ in 0..dice.below(60) {
-            let letter = letters[dice.below(10) as usize];
+            let letter = letters[dice.below(13) as usize];
             match letter {
                 b'I' => {
                     let length = dice.below(20) as usize;
@@ -1339,11 +1576,19 @@ fn garbage() {
                     let number = if dice.below(4) == 0 { dice.next() as u32 } else { dice.below(200) as u32 };
                     script.extend(numbered(letter, number));
                 }
+                b'G' => {
+                    script.extend([letter, dice.below(3) as u8]);
+                    script.extend((dice.below(200) as u32).to_le_bytes());
+                }
+                b'B' => {
+                    script.extend([letter, dice.below(3) as u8, dice.below(5) as u8]);
+                    script.extend((dice.below(25) as u32).to_le_bytes());
+                }
                 b'U' => script.extend(numbered(b'U', dice.below(300) as u32)),
                 b'S' => {
                     let mut numbers = numbers_of(&dice.chip(10));
                     if dice.below(2) == 0 {
-                        let at = dice.below(63) as usize;
+                        let at = dice.below(66) as usize;
                         numbers[at] = match dice.below(3) {
                             0 => dice.next() as i64,
                             1 => dice.within(-32_768, 32_767),

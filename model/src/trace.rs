@@ -2,9 +2,10 @@
 
 use std::io::{self, Write};
 
-use crate::chip::{power_up, read, write, Chip, Values};
+use crate::chip::{power_up, power_up_of, read, write, Chip, Values};
 use crate::frame::Frame;
-use crate::rom::{frame_at, walk, Walked};
+use crate::numbers::{TMS5220, TMS5220C};
+use crate::rom::{frame_at, rated_frame_at, rated_walk, walk, Walked};
 use crate::sound::{run, step};
 use crate::voice::voice_refusal;
 
@@ -14,8 +15,8 @@ pub const MOST_SCRIPT_BYTES: usize = 1_048_576;
 const LONGEST_RUN: i64 = 8_192;
 // trace: "each 9,999 before the call".
 const UNTOUCHED: i64 = 9_999;
-// trace: "`S` | 63 × i64".
-pub const CHIP_NUMBERS: usize = 63;
+// trace: "`S` | as many i64 as `C` has numbers"; "529 [bytes] from §5 on".
+pub const CHIP_NUMBERS: usize = 66;
 
 /// What is left of the script.
 struct Script<'a> {
@@ -107,6 +108,9 @@ impl Player<'_, '_> {
             b'R' => self.read_record(),
             b'T' => self.step_record(),
             b'U' => self.run_record(),
+            b'Q' => self.power_c_record(),
+            b'G' => self.rated_frame_record(),
+            b'B' => self.rated_walk_record(),
             _ => None,
         }
     }
@@ -135,25 +139,37 @@ impl Player<'_, '_> {
     fn walk_record(&mut self) -> Option<io::Result<()>> {
         let address = self.script.u32()?;
         let walked = walk(self.image, address);
-        let part = part(self.image, &walked);
-        let sum: i64 = part.iter().map(|byte| i64::from(*byte)).sum();
-        Some(writeln!(
-            self.out,
-            "A {} {} {} {} {} {} {}",
-            walked.refusal,
-            walked.bits,
-            walked.frames,
-            walked.intervals,
-            walked.samples,
-            part.len(),
-            sum.rem_euclid(65_536)
-        ))
+        Some(writeln!(self.out, "A{}", walk_text(self.image, &walked)))
+    }
+
+    /// trace: "`G refusal bits FRAME rate`".
+    fn rated_frame_record(&mut self) -> Option<io::Result<()>> {
+        let v = i64::from(self.script.byte()?);
+        let bit = self.script.u32()?;
+        let taken = rated_frame_at(self.image, v, bit);
+        let frame = taken.frame;
+        Some(writeln!(self.out, "G {} {}{} {}", taken.refusal, taken.bits, frame_text(&frame), frame.rate))
+    }
+
+    /// trace: "`B`, then the numbers of `A`".
+    fn rated_walk_record(&mut self) -> Option<io::Result<()>> {
+        let v = i64::from(self.script.byte()?);
+        let rr = i64::from(self.script.byte()?);
+        let address = self.script.u32()?;
+        let walked = rated_walk(self.image, v, rr, address);
+        Some(writeln!(self.out, "B{}", walk_text(self.image, &walked)))
     }
 
     /// trace: "`P 0`, then `C`".
     fn power_record(&mut self) -> Option<io::Result<()>> {
         self.chip = power_up();
         Some(writeln!(self.out, "P 0").and_then(|()| self.chip_line()))
+    }
+
+    /// trace: "`Q 0`, then `C`".
+    fn power_c_record(&mut self) -> Option<io::Result<()>> {
+        self.chip = power_up_of(TMS5220C);
+        Some(writeln!(self.out, "Q 0").and_then(|()| self.chip_line()))
     }
 
     /// trace: "chip = this state, valid or not (no call is made)"; `C`.
@@ -181,17 +197,19 @@ impl Player<'_, '_> {
         Some(writeln!(self.out, "R {} {}", answer.refusal, answer.byte).and_then(|()| self.chip_line()))
     }
 
-    /// trace: "`T refusal sample report FRAME`, then `C`".
+    /// trace: "`T refusal sample report FRAME`, and what is said below, then
+    /// `C`": "§5 | rate".
     fn step_record(&mut self) -> Option<io::Result<()>> {
         let answer = step(self.image, self.voice, self.chip);
         self.chip = answer.chip;
         let line = writeln!(
             self.out,
-            "T {} {} {}{}",
+            "T {} {} {}{} {}",
             answer.refusal,
             answer.sample,
             answer.report,
-            frame_text(&answer.frame)
+            frame_text(&answer.frame),
+            answer.frame.rate
         );
         Some(line.and_then(|()| self.chip_line()))
     }
@@ -216,10 +234,26 @@ impl Player<'_, '_> {
         Some(writeln!(self.out, "{line}").and_then(|()| self.chip_line()))
     }
 
-    /// trace: "`C`: the whole chip, the letter and 63 numbers".
+    /// trace: "`C`: the whole chip, the letter and 63 numbers, and those of the
+    /// landed §s".
     fn chip_line(&mut self) -> io::Result<()> {
         writeln!(self.out, "C{}", numbers_text(&numbers_of(&self.chip)))
     }
+}
+
+/// trace: "refusal bits frames intervals samples part_length part_sum".
+fn walk_text(image: &[u8], walked: &Walked) -> String {
+    let part = part(image, walked);
+    let sum: i64 = part.iter().map(|byte| i64::from(*byte)).sum();
+    numbers_text(&[
+        walked.refusal,
+        walked.bits,
+        walked.frames,
+        walked.intervals,
+        walked.samples,
+        part.len() as i64,
+        sum.rem_euclid(65_536),
+    ])
 }
 
 /// The walk's part of the image, empty when refused.
@@ -246,7 +280,7 @@ fn frame_text(frame: &Frame) -> String {
     numbers_text(&numbers)
 }
 
-/// The chip's 63 numbers, in the order of the trace format's table.
+/// The chip's 66 numbers, in the order of the trace format's table.
 pub fn numbers_of(chip: &Chip) -> Vec<i64> {
     let mut numbers = vec![
         chip.mode,
@@ -265,10 +299,11 @@ pub fn numbers_of(chip: &Chip) -> Vec<i64> {
     numbers.extend([chip.targets.energy, chip.targets.pitch]);
     numbers.extend(&chip.targets.k[1..=10]);
     numbers.extend(&chip.memory[1..=10]);
+    numbers.extend([chip.device, chip.v, chip.rr]);
     numbers
 }
 
-/// The chip with these 63 numbers; `No. n` of the table stands at n - 1.
+/// The chip with these 66 numbers; `No. n` of the table stands at n - 1.
 pub fn chip_of(numbers: &[i64; CHIP_NUMBERS]) -> Chip {
     let no = |n: usize| numbers[n - 1];
     let mut fifo = [0; 16];
@@ -293,7 +328,19 @@ pub fn chip_of(numbers: &[i64; CHIP_NUMBERS]) -> Chip {
         currents: Values { energy: no(30), pitch: no(31), k: ten(numbers, 32) },
         targets: Values { energy: no(42), pitch: no(43), k: ten(numbers, 44) },
         memory: ten(numbers, 54),
+        device: no(64),
+        v: rate_number(no(64), no(65)),
+        rr: rate_number(no(64), no(66)),
     }
+}
+
+/// trace: "v, rr; 0 0 on the TMS5220". There is no such state with another
+/// number, so none is held.
+fn rate_number(device: i64, number: i64) -> i64 {
+    if device == TMS5220 {
+        return 0;
+    }
+    number
 }
 
 /// Ten numbers from No. `first` on, at places 1..10.

@@ -1,10 +1,11 @@
-"""The stored script, topic by topic: calls chosen by hand, each for a rule of document 01 that it tells from another, and some
-of each random theme."""
+"""The stored script, topic by topic: calls chosen by hand, each for a rule of document 01 or 02 that it tells from another, and
+some of each random theme."""
 import states
 import themes
 import voices
 from cases_commands import *
 from cases_numbers import *
+from cases_rates import RATE_TOPICS
 from cases_rom import *
 from cases_sound import *
 from chips import chip
@@ -37,7 +38,7 @@ def voice_faults():
 # The random themes, in small.
 def some_of_each_theme():
     out = b''
-    for at, theme in enumerate(themes.ALL):
+    for at, theme in enumerate(themes.OF_01):
         if theme is not themes.long_runs:
             pick = Pick(5220 + at)
             out += b''.join(theme(pick) for _ in range(3))
@@ -50,11 +51,12 @@ def longest_run():
     return image(data) + voice(voices.soft()) + power_up() + write(SPEAK) + run(LONGEST_RUN) + read()
 
 
-# numbers_nine_ff leads on from numbers_status; the others begin with what they need
+# numbers_nine_ff leads on from numbers_status, and the first topic of the rates from numbers_images; the others begin with what
+# they need
 TOPICS = [numbers_walks, numbers_addresses, numbers_status, numbers_nine_ff, numbers_nine_00, numbers_seventeenth,
           numbers_voices, order_of_checks, frames_at_bits, walks, loads, restarts, read_bytes, every_command, statuses,
           ninth_byte, fifo_ends, interrupts, external_paces, spoken_kinds, rom_ends, image_changes, boundaries, interpolations,
-          excitations, filters, state_edges, voice_faults, some_of_each_theme, longest_run, numbers_images]
+          excitations, filters, state_edges, voice_faults, some_of_each_theme, longest_run, numbers_images] + RATE_TOPICS
 
 
 def stored_script():

@@ -1,4 +1,4 @@
-"""Frames as bits, and the images that hold them (document 01, "Frames")."""
+"""Frames as bits, and the images that hold them (document 01, "Frames", and 02, §5)."""
 
 K_BITS = [5, 5, 4, 4, 4, 4, 4, 3, 3, 3]
 MOST_IMAGE_BYTES = 262144
@@ -21,6 +21,11 @@ def unvoiced(energy, ks):
 
 def voiced(energy, pitch, ks):
     return bits(energy, 4) + '0' + bits(pitch, 6) + ''.join(map(bits, ks, K_BITS))
+
+
+def rated(rate, frame):
+    """The frame as it stands with v = 1."""
+    return bits(rate, 2) + frame
 
 
 def pack(text, fill='0'):
@@ -50,6 +55,16 @@ def any_frames(pick, count):
 def any_phrase(pick, most):
     """A whole phrase of at most so many frames before its stop."""
     return pack(any_frames(pick, pick.below(most + 1)) + STOP, pick.one_of('01'))
+
+
+def any_rated_frames(pick, count):
+    """Random frames other than a stop, each with a rate; all of one rate at times."""
+    rates = pick.one_of([[0, 1, 2, 3], [0, 1, 2, 3], [pick.below(4)]])
+    return ''.join(rated(pick.one_of(rates), any_frame(pick)) for _ in range(count))
+
+
+def any_rated_phrase(pick, most):
+    return pack(any_rated_frames(pick, pick.below(most + 1)) + rated(pick.below(4), STOP), pick.one_of('01'))
 
 
 def damaged(pick, data):

@@ -3,7 +3,7 @@ import struct
 
 MOST_SCRIPT_BYTES = 1048576
 LONGEST_RUN = 8192
-CHIP_NUMBERS = 63
+CHIP_NUMBERS = 66
 
 
 # ---- one function for each letter; what it returns is the record's bytes
@@ -26,6 +26,20 @@ def walk(*addresses):
 
 def power_up():
     return b'P'
+
+
+# the TMS5220C
+
+def power_up_c():
+    return b'Q'
+
+
+def rated_frame_at(v, *bits):
+    return b''.join(b'G' + struct.pack('<BI', v, bit) for bit in bits)
+
+
+def rated_walk(v, rr, *addresses):
+    return b''.join(b'B' + struct.pack('<BBI', v, rr, address) for address in addresses)
 
 
 def state(numbers):
@@ -59,6 +73,11 @@ def load(nibble):
     return 0x40 + nibble
 
 
+def frame_rate(v, rr):
+    """Load Frame Rate, the free bits zero."""
+    return 4 * v + rr
+
+
 def load_address(address):
     """The five loads of a byte address, lowest nibble first."""
     return write(*[load(address >> 4 * i & 15) for i in range(5)])
@@ -67,10 +86,10 @@ def load_address(address):
 # ---- taking a script apart
 
 # the letters whose answer has a second line, the chip
-WITH_CHIP = b'PWRTU'
+WITH_CHIP = b'PQWRTU'
 # the letters that call an operation of the library
-CALLS = b'VFAPWRTU'
-FIXED = {b'F': 4, b'A': 4, b'P': 0, b'S': 8 * CHIP_NUMBERS, b'W': 1, b'R': 0, b'T': 0, b'U': 4}
+CALLS = b'VFAPQGBWRTU'
+FIXED = {b'F': 4, b'A': 4, b'P': 0, b'S': 8 * CHIP_NUMBERS, b'W': 1, b'R': 0, b'T': 0, b'U': 4, b'Q': 0, b'G': 5, b'B': 6}
 
 
 def records(script):

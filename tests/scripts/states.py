@@ -1,6 +1,7 @@
-"""States of the chip for S records: valid ones, and ones that break a range (document 01, "State ranges")."""
+"""States of the chip for S records: valid ones, and ones that break a range (document 01, "State ranges", and 02, §5)."""
 
 IDLE, ROM, WAITING, EXTERNAL = range(4)
+TMS5220, TMS5220C = range(2)
 FIFO_BYTES = 16
 LAST_POSITION = 2097152
 
@@ -15,7 +16,8 @@ CURRENT, TARGET = values('current'), values('target')
 MEMORY = [f'memory {i}' for i in range(1, 11)]
 SOUND = ['sample', 'interval', 'noise', 'place'] + CURRENT + TARGET + MEMORY
 # the order of the trace format's table
-FIELDS = ['mode', 'position', 'nibble', 'pending', 'data', 'interrupt', 'level', 'used'] + FIFO + ['sounding'] + SOUND
+OF_01 = ['mode', 'position', 'nibble', 'pending', 'data', 'interrupt', 'level', 'used'] + FIFO + ['sounding'] + SOUND
+FIELDS = OF_01 + ['device', 'v', 'rr']
 
 # the ranges that hold in every mode
 RANGES = {'position': (0, LAST_POSITION), 'nibble': (0, 4), 'sample': (0, 24), 'interval': (0, 7), 'noise': (1, 8191),
@@ -24,20 +26,23 @@ for name in CURRENT + TARGET:
     RANGES[name] = (-512, 511) if 'K' in name else (0, 1023)
 for name in MEMORY:
     RANGES[name] = (-8192, 8191)
+# those of the TMS5220C alone; the TMS5220 has no rate
+RATES = {'v': (0, 1), 'rr': (0, 3)}
 
 # what an S record may hold
 FORMAT = {name: (0, 32767) for name in ['noise', 'place'] + CURRENT + TARGET}
 FORMAT.update({name: (-32768, 32767) for name in CURRENT[2:] + TARGET[2:] + MEMORY})
-FORMAT.update({name: (0, 255) for name in ['nibble', 'data', 'level', 'used', 'sample', 'interval'] + FIFO})
-FORMAT.update({name: (0, 1) for name in ['pending', 'interrupt', 'sounding']})
+FORMAT.update({name: (0, 255) for name in ['nibble', 'data', 'level', 'used', 'sample', 'interval', 'v', 'rr'] + FIFO})
+FORMAT.update({name: (0, 1) for name in ['pending', 'interrupt', 'sounding', 'device']})
 FORMAT.update({'mode': (0, 3), 'position': (0, 2 ** 32 - 1)})
 
 LEVELS = {IDLE: (0, 0), ROM: (0, 0), WAITING: (0, 8), EXTERNAL: (1, FIFO_BYTES)}
 
 
 def numbers(fields):
-    """The 63 numbers of a state."""
+    """The 66 numbers of a state."""
     assert all(FORMAT[name][0] <= fields[name] <= FORMAT[name][1] for name in FIELDS), fields
+    assert fields['device'] == TMS5220C or fields['v'] == fields['rr'] == 0, fields
     return [fields[name] for name in FIELDS]
 
 
@@ -122,6 +127,12 @@ def data_edges():
 EDGES = [list(edges()) for edges in (range_edges, level_edges, used_edges, unheld_edges, silent_edges, data_edges)]
 
 
+def rate_edges():
+    """v and rr of the TMS5220C: each pair inside, each one outside by one and far, and both. With v = 1 rr is checked too."""
+    for v, rr in ((0, 0), (0, 3), (1, 0), (1, 3), (2, 0), (0, 4), (1, 4), (2, 4), (255, 3), (0, 255), (1, 255)):
+        yield in_mode(ROM, device=TMS5220C, v=v, rr=rr)
+
+
 # ---- random states
 
 def any_sound(pick):
@@ -153,8 +164,20 @@ def any_valid(pick, positions=(0, LAST_POSITION)):
 def any_broken(pick):
     """A valid state with one field replaced by a number that the format allows, most often just outside its range."""
     fields = any_valid(pick)
-    name = pick.one_of(FIELDS)
+    name = pick.one_of(OF_01)
     low, high = RANGES.get(name, FORMAT[name])
     value = pick.one_of([low - 1, high + 1, FORMAT[name][0], FORMAT[name][1], pick.between(*FORMAT[name])])
     fields[name] = min(max(value, FORMAT[name][0]), FORMAT[name][1])
     return fields
+
+
+def any_rates(pick):
+    """The device of a TMS5220C with any rate."""
+    return {'device': TMS5220C, 'v': pick.below(2), 'rr': pick.below(4)}
+
+
+def any_broken_rates(pick):
+    """The same with v, rr or both out of range."""
+    v = pick.one_of([0, 1, 2, 255, pick.between(2, 255)])
+    rr = pick.one_of([0, 3, 4, 255, pick.between(4, 255)])
+    return {'device': TMS5220C, 'v': v, 'rr': rr}

@@ -1,4 +1,6 @@
 """What a random script is made of: one function for each theme, from a Pick to the bytes of some records."""
+import struct
+
 import images
 import states
 import voices
@@ -206,19 +208,187 @@ def largest_images(pick):
     return out + good_image(pick) + some_calls(pick)
 
 
-ALL = [walks_and_frames, phrases_at_addresses, bad_voices, commands, addresses, rom_speech, external_speech, unreachable_states,
-       broken_states, changing_images, several_faults, long_runs]
+OF_01 = [walks_and_frames, phrases_at_addresses, bad_voices, commands, addresses, rom_speech, external_speech,
+         unreachable_states, broken_states, changing_images, several_faults, long_runs]
+
+
+# ---- the TMS5220C
+
+# lengths of runs around the ends of intervals and of frames of each rate
+RATED_LENGTHS = [24, 25, 49, 50, 51, 75, 98, 99, 100, 101, 149, 150, 151, 198, 199, 200]
+
+
+def rate_byte(pick):
+    """Load Frame Rate, any free bits."""
+    return frame_rate(pick.below(2), pick.below(4)) + pick.one_of([0, 0x08, 0x20, 0x28]) + 128 * pick.below(2)
+
+
+def set_rate(pick, v, rr):
+    """The same with this v and rr."""
+    return write(rate_byte(pick) & 0xF8 | frame_rate(v, rr))
+
+
+def any_v(pick):
+    return pick.one_of([0, 1, 1, 1, 2, 255, pick.below(256)])
+
+
+def any_rr(pick):
+    return pick.one_of([0, 1, 2, 3, 4, 255, pick.below(256)])
+
+
+def rated_calls(pick, most):
+    """Steps, runs across the ends of short frames, reads, and a written byte, most often Load Frame Rate."""
+    out = b''
+    for _ in range(pick.between(1, most)):
+        length = pick.one_of(RATED_LENGTHS + [pick.below(420)])
+        byte = pick.one_of([rate_byte(pick), rate_byte(pick), pick.below(256)])
+        out += pick.one_of([step(), step(2), read(), run(length), run(length), run(length), write(byte)])
+    return out
+
+
+def on_tms5220c(pick, script):
+    """The same records for the TMS5220C: its power-up, a rate for each state, v and rr told to frames and walks."""
+    out = b''
+    for start, end, letter, _ in records(script):
+        record = script[start:end]
+        if letter == b'P':
+            record = power_up_c() + (write(rate_byte(pick)) if pick.chance(70) else b'')
+        elif letter == b'S':
+            rates = states.any_broken_rates(pick) if pick.chance(8) else states.any_rates(pick)
+            record = with_rates(record, rates)
+        elif letter == b'F':
+            record = b'G' + bytes([any_v(pick)]) + record[1:]
+        elif letter == b'A':
+            record = b'B' + bytes([any_v(pick), any_rr(pick)]) + record[1:]
+        out += record
+    return out
+
+
+def with_rates(record, rates):
+    return record[:-24] + struct.pack('<3q', rates['device'], rates['v'], rates['rr'])
+
+
+# Any of the themes above on the TMS5220C. Their images have no rate bits; with v = 1 other frames are read from them.
+def themes_of_01(pick):
+    return on_tms5220c(pick, pick.one_of(OF_01)(pick))
+
+
+# Phrases with rate bits, whole and damaged, walked and spoken with v = 1, and at times with v = 0.
+def rated_phrases(pick):
+    data, starts = pick.bytes(pick.below(4)), []
+    for _ in range(pick.between(1, 3)):
+        starts.append(len(data))
+        phrase = images.any_rated_phrase(pick, 5)
+        data += images.damaged(pick, phrase) if pick.chance(40) else phrase
+    data = data or b'\xff'
+    out = image(data) + good_voice(pick)
+    for start in starts + [pick.below(len(data) + 1)]:
+        near = max(8 * len(data) - pick.below(55), 0)
+        out += rated_walk(pick.one_of([1, 1, 1, 0]), pick.below(4), start)
+        out += rated_frame_at(pick.one_of([1, 1, 0]), 8 * start, 8 * start + pick.below(60), near)
+    for start in starts:
+        rate = set_rate(pick, pick.one_of([1, 1, 1, 0]), pick.below(4))
+        # the rate may be loaded before the address and behind it
+        before, after = pick.one_of([(rate, b''), (rate, b''), (write(rate_byte(pick)), rate)])
+        out += power_up_c() + before + load_address(start) + after + write(SPEAK) + step() + rated_calls(pick, 8)
+    return out
+
+
+# Speech from ROM at one rate or at the frames' own, to its end; Load Frame Rate in the stop's frame; Speak again.
+def rated_rom_speech(pick):
+    v, rr = pick.below(2), pick.below(4)
+    count = pick.below(6)
+    text = images.any_rated_frames(pick, count) if v else images.any_frames(pick, count)
+    if pick.chance(80):
+        text += images.rated(pick.below(4), images.STOP) if v else images.STOP
+    out = image(images.pack(text) or b'\0') + good_voice(pick) + power_up_c() + set_rate(pick, v, rr) + write(SPEAK)
+    out += step() + rated_calls(pick, 12)
+    out += pick.one_of([b'', run(1200), run(600) + write(rate_byte(pick)) + rated_calls(pick, 3)])
+    again = load_address(0) + write(rate_byte(pick), SPEAK) + rated_calls(pick, 4)
+    return out + pick.one_of([b'', write(RESET) + step(), again])
+
+
+# External speech at one rate or at the frames' own, fed too fast or too slow.
+def rated_external_speech(pick):
+    v, rr = pick.below(2), pick.below(4)
+    text = ''
+    for _ in range(pick.between(1, 3)):
+        count = pick.below(6)
+        text += images.any_rated_frames(pick, count) if v else images.any_frames(pick, count)
+        if pick.chance(50):
+            text += images.rated(pick.below(4), images.STOP) if v else images.STOP
+    often, most = pick.one_of([(2, 10), (15, 150), (40, 60), (50, 250)])
+    out = good_image(pick) + good_voice(pick) + power_up_c() + set_rate(pick, v, rr) + write(SPEAK_EXTERNAL)
+    for byte in images.pack(text, pick.one_of('01')) + pick.bytes(pick.below(12)):
+        out += write(byte)
+        if pick.chance(often):
+            out += pick.one_of([step(), read(), run(pick.below(most + 1))])
+    return out + rated_calls(pick, 8) + pick.one_of([b'', run(1000), run(4000)])
+
+
+# Load Frame Rate among the other commands, on both devices.
+def rate_commands(pick):
+    out = good_image(pick) + good_voice(pick) + pick.one_of([power_up_c(), power_up_c(), power_up_c(), power_up()])
+    for _ in range(pick.between(4, 30)):
+        command = pick.one_of([READ_BYTE, READ_AND_BRANCH, load(0), SPEAK, RESET, pick.one_of([RESET, SPEAK_EXTERNAL])])
+        out += write(pick.one_of([rate_byte(pick), command + pick.below(16) + 128 * pick.below(2)]))
+        if pick.chance(30):
+            out += pick.one_of([read(), read(2), step(), run(pick.one_of(RATED_LENGTHS)), run(401)])
+    return out
+
+
+# States of the TMS5220C, valid and not, before the ends of frames of each rate.
+def rate_states(pick):
+    data = images.any_rated_phrase(pick, 4)
+    out = image(data) + (good_voice(pick) if pick.chance(40) else b'')
+    for _ in range(pick.between(1, 3)):
+        fields = {**states.any_valid(pick, (0, 8 * len(data))), **states.any_rates(pick)}
+        if fields['sounding'] and pick.chance(60):
+            fields.update({'sample': pick.one_of([0, 24]), 'interval': pick.below(8)})
+        if pick.chance(25):
+            fields.update(states.any_broken_rates(pick))
+        out += state_of(fields) + pick.one_of([step(2), run(pick.one_of(RATED_LENGTHS)), read()]) + rated_calls(pick, 5)
+    return out
+
+
+# Frames and walks that are told any v and rr, with and without a fault of the image and of the place.
+def told_rates(pick):
+    data = pick.one_of([b'', images.any_rated_phrase(pick, 3), images.any_image(pick)])
+    out = image(data)
+    for _ in range(pick.between(2, 10)):
+        place = pick.one_of([0, pick.below(len(data) + 2), len(data), 2 ** 32 - 1])
+        bit = pick.one_of([8 * place, pick.below(8 * len(data) + 3), 2 ** 32 - 1]) % 2 ** 32
+        out += rated_walk(any_v(pick), any_rr(pick), place) + rated_frame_at(any_v(pick), bit)
+    return out
+
+
+# The longest runs over many short frames.
+def long_rated_runs(pick):
+    data = images.pack(images.any_rated_frames(pick, pick.between(20, 100)) + images.rated(pick.below(4), images.STOP))
+    out = image(data) + good_voice(pick) + power_up_c() + set_rate(pick, 1, pick.below(4)) + write(SPEAK)
+    for _ in range(pick.between(1, 2)):
+        out += run(pick.one_of([LONGEST_RUN, pick.below(LONGEST_RUN + 1), 4000])) + read()
+    return out + rated_walk(1, 0, 0)
+
+
+OF_RATES = [themes_of_01, rated_phrases, rated_rom_speech, rated_external_speech, rate_commands, rate_states, told_rates,
+            long_rated_runs]
+# half of the themes of a random script are of each list; themes_of_01 comes oftener, as it stands for many
+ALL = OF_01 + OF_RATES + [themes_of_01] * (len(OF_01) - len(OF_RATES))
 
 
 def any_script(pick, size):
     """A script of about so many bytes. Some end badly: cut anywhere, an unknown letter, a run too long."""
     out = largest_images(pick) if pick.chance(4) else b''
+    if pick.chance(50):
+        out = on_tms5220c(pick, out)
     size += len(out)
     while len(out) < size:
         out += pick.one_of(ALL)(pick)
     if pick.chance(10):
         too_long, cut = [run(LONGEST_RUN + 1), run(2 ** 32 - 1)], [image(b'\xff')[:3], voice(bytes(9))[:-1]]
-        out += pick.one_of([b'x', b'\0', b'i'] + too_long + cut) + step()
+        cut += [rated_frame_at(1, 0)[:-1], rated_walk(1, 2, 0)[:-1]]
+        out += pick.one_of([b'x', b'\0', b'i', b'q'] + too_long + cut) + step()
     if pick.chance(10):
         out = out[:pick.below(len(out) + 1)]
     return out[:MOST_SCRIPT_BYTES]
