@@ -5,8 +5,11 @@ ghost use Rattle.trace_script.specs.Script.{limit};
 use base::bytes::byte_at;
 use base::refusal::TAKEN;
 use chip::state::Chip;
+use rates::rate::FrameRate;
 use trace_lines::lines::UNTOUCHED;
 use trace_lines::lines::chip_line;
+use trace_lines::lines::rated_frame_line;
+use trace_lines::lines::rated_walk_line;
 use trace_lines::lines::read_line;
 use trace_lines::lines::refusal_line;
 use trace_lines::lines::run_line;
@@ -71,12 +74,12 @@ fn hand_back(chip: Chip, out: &mut [u8], used: usize) -> Played
     }
 }
 
-// `P`: power-up.
-fn power_up(out: &mut [u8], used: usize) -> Played
+// `P` and `Q`: the power-up of a TMS5220, and of a TMS5220C.
+fn power_up(letter: u8, chip: Chip, out: &mut [u8], used: usize) -> Played
     ensures { λ r. ⌜ r .used ≤ length (now (out .entry)) ⌝ }
 {
-    let p = refusal_line(out, used, b'P', TAKEN);
-    hand_back(Chip::power_up(), out, p)
+    let p = refusal_line(out, used, letter, TAKEN);
+    hand_back(chip, out, p)
 }
 
 // The numbers of a state.
@@ -132,6 +135,7 @@ fn step(script: &[u8], parts: Parts, chip: Chip, out: &mut [u8], used: usize) ->
         stepped.sample,
         told.number(),
         told.frame(),
+        stepped.details,
     );
     hand_back(stepped.chip, out, p)
 }
@@ -181,6 +185,28 @@ fn tell(script: &[u8], at: usize, parts: Parts, out: &mut [u8], used: usize) -> 
     )
 }
 
+// `G`: a frame taken, told v.
+fn tell_rated_frame(script: &[u8], at: usize, parts: Parts, out: &mut [u8], used: usize) -> usize
+    requires { ⌜ at ≤ limit ⌝ }
+    ensures { λ r. ⌜ r ≤ length (now (out .entry)) ⌝ }
+{
+    let image = part(script, parts.image, parts.image_end);
+    rated_frame_line(out, used, image, le32(script, at + 1), byte_at(script, at))
+}
+
+// `B`: a walk, told v and rr.
+fn tell_rated_walk(script: &[u8], at: usize, parts: Parts, out: &mut [u8], used: usize) -> usize
+    requires { ⌜ at ≤ limit ⌝ }
+    ensures { λ r. ⌜ r ≤ length (now (out .entry)) ⌝ }
+{
+    let image = part(script, parts.image, parts.image_end);
+    let rate = FrameRate {
+        v: byte_at(script, at),
+        rr: byte_at(script, at + 1),
+    };
+    rated_walk_line(out, used, image, le32(script, at + 2), rate)
+}
+
 // Plays the record that begins with byte `at`. A record has been seen to be whole before.
 pub fn play(
     script: &[u8],
@@ -195,12 +221,21 @@ pub fn play(
 {
     let body = at + 1;
     match byte_at(script, at) {
-        b'P' => power_up(out, used),
+        b'P' => power_up(b'P', Chip::power_up(), out, used),
+        b'Q' => power_up(b'Q', Chip::power_up_5220c(), out, used),
         b'S' => set(script, body, out, used),
         b'W' => write(script, body, parts, chip, out, used),
         b'R' => read(chip, out, used),
         b'T' => step(script, parts, chip, out, used),
         b'U' => run(script, body, parts, chip, out, used),
+        b'G' => Played {
+            chip,
+            used: tell_rated_frame(script, body, parts, out, used),
+        },
+        b'B' => Played {
+            chip,
+            used: tell_rated_walk(script, body, parts, out, used),
+        },
         _ => Played {
             chip,
             used: tell(script, at, parts, out, used),

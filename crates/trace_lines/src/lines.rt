@@ -10,8 +10,11 @@ use crate::numbers::small;
 use crate::numbers::smalls;
 use crate::numbers::text;
 use base::refusal::TAKEN;
+use rates::rate::FrameRate;
+use reports::Details;
 use rom::frames::MaybeFrame;
 use rom::frames::numbers;
+use rom::phrases::Walked;
 use rom::phrases::phrase;
 use rom::phrases::walk;
 use rom::reader::frame_taken;
@@ -34,7 +37,7 @@ fn image_line(out: &mut [u8], at: usize, size: usize) -> usize
     put(out, p, b'\n')
 }
 
-// `V`, `P` and `W`: a letter and a refusal number alone.
+// `V`, `P`, `Q` and `W`: a letter and a refusal number alone.
 pub fn refusal_line(out: &mut [u8], at: usize, letter: u8, refusal: u8) -> usize
     ensures { λ r. ⌜ r ≤ length (now (out .entry)) ⌝ }
 {
@@ -42,14 +45,13 @@ pub fn refusal_line(out: &mut [u8], at: usize, letter: u8, refusal: u8) -> usize
     put(out, p, b'\n')
 }
 
-// The thirteen numbers of a frame, and the line's end.
+// The thirteen numbers of a frame.
 fn frame(out: &mut [u8], at: usize, found: MaybeFrame) -> usize
     requires { ⌜ at ≤ length (now out) ⌝ }
     ensures { λ r. ⌜ r ≤ length (now (out .entry)) ⌝ }
 {
     let list = numbers(found);
-    let p = smalls(out, at, &list);
-    put(out, p, b'\n')
+    smalls(out, at, &list)
 }
 
 // `F`: a frame taken at a bit of an image.
@@ -60,7 +62,21 @@ fn frame_line(out: &mut [u8], at: usize, image: &[u8], bit: usize) -> usize
     let found = taken.frame;
     let p = head(out, at, b'F', taken.refusal);
     let p = natural(out, p, taken.bits as u64);
-    frame(out, p, found)
+    let p = frame(out, p, found);
+    put(out, p, b'\n')
+}
+
+// `G`: a frame taken at a bit of an image, told v, with its rate.
+pub fn rated_frame_line(out: &mut [u8], at: usize, image: &[u8], bit: usize, v: u8) -> usize
+    ensures { λ r. ⌜ r ≤ length (now (out .entry)) ⌝ }
+{
+    let taken = rates::walks::frame_taken(image, bit, v);
+    let found = taken.frame;
+    let p = head(out, at, b'G', taken.refusal);
+    let p = natural(out, p, taken.bits as u64);
+    let p = frame(out, p, found);
+    let p = small(out, p, taken.rate);
+    put(out, p, b'\n')
 }
 
 // The sum of bytes modulo 65,536.
@@ -73,11 +89,10 @@ fn sum(bytes: &[u8]) -> u64 {
 }
 
 // What a walk returns: its number, bits, frames, intervals and samples.
-fn walked(out: &mut [u8], at: usize, image: &[u8], address: usize) -> usize
+fn walked(out: &mut [u8], at: usize, letter: u8, walked: Walked) -> usize
     ensures { λ r. ⌜ r ≤ length (now (out .entry)) ⌝ }
 {
-    let walked = walk(image, address);
-    let p = head(out, at, b'A', walked.refusal);
+    let p = head(out, at, letter, walked.refusal);
     let p = natural(out, p, walked.bits as u64);
     let frames = walked.frames;
     let intervals = walked.intervals;
@@ -87,15 +102,42 @@ fn walked(out: &mut [u8], at: usize, image: &[u8], address: usize) -> usize
     natural(out, p, samples.count())
 }
 
-// `A`: a walk of an image from a byte address, with the length of its part and the sum of the part's bytes.
+// A walk, with the length of its part and the sum of the part's bytes.
+fn walked_line(out: &mut [u8], at: usize, letter: u8, numbers: Walked, part: &[u8]) -> usize
+    ensures { λ r. ⌜ r ≤ length (now (out .entry)) ⌝ }
+{
+    let p = walked(out, at, letter, numbers);
+    let p = natural(out, p, part.len() as u64);
+    let p = natural(out, p, sum(part));
+    put(out, p, b'\n')
+}
+
+// `A`: a walk of an image from a byte address.
 fn walk_line(out: &mut [u8], at: usize, image: &[u8], address: usize) -> usize
     ensures { λ r. ⌜ r ≤ length (now (out .entry)) ⌝ }
 {
     let part = phrase(image, address);
-    let p = walked(out, at, image, address);
-    let p = natural(out, p, part.len() as u64);
-    let p = natural(out, p, sum(part));
-    put(out, p, b'\n')
+    walked_line(out, at, b'A', walk(image, address), part)
+}
+
+// `B`: the same, told v and rr.
+pub fn rated_walk_line(
+    out: &mut [u8],
+    at: usize,
+    image: &[u8],
+    address: usize,
+    rate: FrameRate,
+) -> usize
+    ensures { λ r. ⌜ r ≤ length (now (out .entry)) ⌝ }
+{
+    let part = rates::walks::phrase(image, address, rate);
+    walked_line(
+        out,
+        at,
+        b'B',
+        rates::walks::walk(image, address, rate),
+        part,
+    )
 }
 
 // The answer to a record that asks nothing of a chip, `I`, `V`, `F` or `A`, with its u32.
@@ -126,7 +168,7 @@ pub fn read_line(out: &mut [u8], at: usize, refusal: u8, byte: u8) -> usize
     put(out, p, b'\n')
 }
 
-// `T`: a sample step, with the number of its report and the frame that it reports.
+// `T`: a sample step, with the number of its report, the frame that it reports and what it gives besides.
 pub fn step_line(
     out: &mut [u8],
     at: usize,
@@ -134,13 +176,16 @@ pub fn step_line(
     value: i16,
     report: u8,
     found: MaybeFrame,
+    details: Details,
 ) -> usize
     ensures { λ r. ⌜ r ≤ length (now (out .entry)) ⌝ }
 {
     let p = head(out, at, b'T', refusal);
     let p = sample(out, p, value);
     let p = small(out, p, report);
-    frame(out, p, found)
+    let p = frame(out, p, found);
+    let p = small(out, p, details.rate);
+    put(out, p, b'\n')
 }
 
 // What each element of a run's buffer is before the call. No sample is so large.

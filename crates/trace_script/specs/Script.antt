@@ -21,7 +21,7 @@ runLimit = 8192
 
 -- how many numbers a chip's state has
 abbrev pub stateLength : ℕ
-stateLength = 63
+stateLength = 66
 
 -- the u32 from byte i on, little-endian
 unfoldable pub le32 : List ℕ → ℕ → ℕ
@@ -39,16 +39,19 @@ leI64 s i = signed (le32 s i + 4294967296 * le32 s (i + 4))
 abbrev pub partOf : List ℕ → ℕ → ℕ → List ℕ
 partOf s from end = cond (leb from end && leb end (length s)) (take (end - from) (drop from s)) []
 
--- What follows a letter, of which `count` is the first u32: nothing after P, R and T; a byte after W; a u32 after F, A and U,
--- of which U's is at most `runLimit`; a state's i64 after S; a u32 and that many bytes after I and V. No other letter begins a record.
+-- What follows a letter, of which `count` is the first u32: nothing after P, Q, R and T; a byte after W; a u32 after F, A and U,
+-- of which U's is at most `runLimit`; v and a u32 after G; v, rr and a u32 after B; a state's i64 after S; a u32 and that many bytes
+-- after I and V. No other letter begins a record.
 unfoldable pub bodyOf : ℕ → ℕ → Body
 bodyOf letter count =
-    cond (eqb letter 80 || eqb letter 82 || eqb letter 84) (Bytes 0)
+    cond (eqb letter 80 || eqb letter 81 || eqb letter 82 || eqb letter 84) (Bytes 0)
     (cond (eqb letter 87) (Bytes 1)
     (cond (eqb letter 70 || eqb letter 65 || (eqb letter 85 && leb count runLimit)) (Bytes 4)
+    (cond (eqb letter 71) (Bytes 5)
+    (cond (eqb letter 66) (Bytes 6)
     (cond (eqb letter 83) (Bytes (8 * stateLength))
     (cond (eqb letter 73 || eqb letter 86) (Bytes (4 + count))
-    None))))
+    None))))))
 
 -- the record with this body from byte `start` on, in a script of n bytes
 abbrev pub recordOf : ℕ → ℕ → Body → Record

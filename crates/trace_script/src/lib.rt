@@ -12,7 +12,7 @@ pub const LIMIT: usize = 1048576;
 pub const RUN_LIMIT: usize = 8192;
 
 // How many numbers a chip's state has, in a record and in a line. Later ones are added at the end.
-pub const STATE_LENGTH: usize = 63;
+pub const STATE_LENGTH: usize = 66;
 
 // The u32 from byte `at` on, little-endian. That it is below 2^32 follows from the bytes, of which the definition says no range.
 pub fn le32(script: &[u8], at: usize) -> usize
@@ -78,7 +78,7 @@ fn body_of(letter: u8, count: usize) -> Body
     requires { ⌜ count < 2 ^ 32 ⌝ }
     ensures { λ r. ⌜ r ≡ bodyOf letter count ⌝ }
 {
-    if (letter == b'P') | (letter == b'R') | (letter == b'T') {
+    if (letter == b'P') | (letter == b'Q') | (letter == b'R') | (letter == b'T') {
         return Body::Bytes(0);
     }
     if letter == b'W' {
@@ -86,6 +86,12 @@ fn body_of(letter: u8, count: usize) -> Body
     }
     if (letter == b'F') | (letter == b'A') | (letter == b'U') & (count <= RUN_LIMIT) {
         return Body::Bytes(4);
+    }
+    if letter == b'G' {
+        return Body::Bytes(5);
+    }
+    if letter == b'B' {
+        return Body::Bytes(6);
     }
     if letter == b'S' {
         return Body::Bytes(8 * STATE_LENGTH);

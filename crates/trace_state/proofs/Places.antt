@@ -10,7 +10,7 @@ use lib.Seq.{drop-drop, drop-at, getD-drop}
 use Rattle.trace_script.specs.Script.{stateLength}
 use Rattle.trace_state.specs.Types.{Chip}
 use Rattle.trace_state.specs.Numbers.{wide}
-use Rattle.trace_state.specs.Fields.{controlNumbers, clockNumbers, paramNumbers, stateNumbers, nth}
+use Rattle.trace_state.specs.Fields.{controlNumbers, clockNumbers, deviceFields, paramNumbers, stateNumbers, nth}
 
 -- past a part of n numbers from number m on
 further : (s xs ys : List ℤ) (m n : ℕ) → length xs ≡ n → drop m s ≡ xs ++ ys → drop (m + n) s ≡ ys
@@ -45,8 +45,14 @@ module _ (c : Chip) where
   abbrev target : List ℤ
   target = paramNumbers (c .sound .target)
 
+  abbrev device : List ℤ
+  device = map wide (deviceFields (c .control .device))
+
+  abbrev from-memory : List ℤ
+  from-memory = c .sound .memory ++ device
+
   abbrev from-target : List ℤ
-  from-target = target ++ c .sound .memory
+  from-target = target ++ from-memory
 
   abbrev from-current : List ℤ
   from-current = current ++ from-target
@@ -88,15 +94,22 @@ module _ (c : Chip) where
 
       module _ (k′ : length (c .sound .target .k) ≡ 10) where
         pub target-is : (i : ℕ) → 41 ≤ i → i < 53 → nth target (i - 41) ≡ nth (stateNumbers c) i
-        target-is i h j = within (stateNumbers c) target (c .sound .memory) 41 i target-at h (omega (arith, k′))
+        target-is i h j = within (stateNumbers c) target from-memory 41 i target-at h (omega (arith, k′))
 
-        pub memory-at : drop 53 (stateNumbers c) ≡ c .sound .memory
-        memory-at = further (stateNumbers c) target (c .sound .memory) 41 12 (ap (λ n. suc (suc n)) k′) target-at
+        pub memory-at : drop 53 (stateNumbers c) ≡ from-memory
+        memory-at = further (stateNumbers c) target from-memory 41 12 (ap (λ n. suc (suc n)) k′) target-at
 
-        pub memory-is : (i : ℕ) → 53 ≤ i → nth (c .sound .memory) (i - 53) ≡ nth (stateNumbers c) i
-        memory-is i h = beyond (stateNumbers c) (c .sound .memory) 53 i memory-at h
+        module _ (ten : length (c .sound .memory) ≡ 10) where
+          pub memory-is : (i : ℕ) → 53 ≤ i → i < 63 → nth (c .sound .memory) (i - 53) ≡ nth (stateNumbers c) i
+          memory-is i h j = within (stateNumbers c) (c .sound .memory) device 53 i memory-at h (omega (arith, ten))
 
-        pub state-length : length (c .sound .memory) ≡ 10 → length (stateNumbers c) ≡ stateLength
-        state-length h =
-            let n : length (stateNumbers c) - 53 ≡ 10 = sym (length-drop 53 (stateNumbers c)) ∙ ap length memory-at ∙ h in
-            omega arith
+          pub device-at : drop 63 (stateNumbers c) ≡ device
+          device-at = further (stateNumbers c) (c .sound .memory) device 53 10 ten memory-at
+
+          pub device-is : (i : ℕ) → 63 ≤ i → wide (getD (deviceFields (c .control .device)) (i - 63) 0) ≡ nth (stateNumbers c) i
+          device-is i h = sym (List·getD-map wide (deviceFields (c .control .device)) (i - 63) 0) ∙ beyond (stateNumbers c) device 63 i device-at h
+
+          pub state-length : length (stateNumbers c) ≡ stateLength
+          state-length =
+              let n : length (stateNumbers c) - 63 ≡ 3 = sym (length-drop 63 (stateNumbers c)) ∙ ap length device-at in
+              omega arith

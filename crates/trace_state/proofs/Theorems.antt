@@ -1,18 +1,20 @@
 -- The laws of specs/Laws.antt.
 -- Assumes nothing.
 use mathlib.Core.Path.{_≡_, refl, sym, ap, _∙_}
+use mathlib.Core.Bool.{cond}
 use mathlib.Core.List.{List, _++_, map}
-use Prim.Native.Nat.{ℕ, _+_}
+use Prim.Native.Nat.{ℕ, _+_, _≤_}
 use native.Mathlib.Omega.{arith}
 use lib.IntN.{ℤ, pos}
 use lib.ListN.{take, drop, length-map}
-use lib.Seq.{take-at, take-all, drop-drop, getD-drop}
-use Rattle.trace_state.specs.Types.{Clock, Params, Chip}
-use Rattle.trace_state.specs.Numbers.{wide, natural}
-use Rattle.trace_state.specs.Fields.{paramNumbers, stateNumbers, nth, addressOf, fifoOf, portOf, clockOf, paramsOf, soundOf, chipOf}
+use lib.Seq.{take-at, drop-drop, getD-drop}
+use Rattle.control.specs.Device.{rateOf}
+use Rattle.trace_state.specs.Types.{Clock, Device, Tms5220, Tms5220C, Params, Chip}
+use Rattle.trace_state.specs.Numbers.{wide, natural, kindNumber, flagOf}
+use Rattle.trace_state.specs.Fields.{paramNumbers, stateNumbers, nth, addressOf, fifoOf, portOf, clockOf, deviceOf, paramsOf, soundOf, chipOf}
 use Rattle.trace_state.specs.Laws.{StateLength, ParamsInFormat, InFormat, ComesBack}
 use Rattle.trace_state.proofs.Signed.{natural-back, naturals-back, shorts-back, level-back, flag-back, mode-back}
-use Rattle.trace_state.proofs.Places.{bytes-at, clock-at, current-at, target-at, memory-at, state-length}
+use Rattle.trace_state.proofs.Places.{bytes-at, clock-at, current-at, target-at, memory-at, device-at, state-length}
 
 -- number i, which is number j of what stands in a list from number m on
 number : (s xs : List ℤ) (m j i : ℕ) → i ≡ m + j → drop m s ≡ xs → nth s i ≡ nth xs j
@@ -29,6 +31,11 @@ params-back s ys m v e f =
       level-back (f .pitch),
       shorts-back (v .k) (f .k .shorts),
     )
+
+kind-back : (d : Device) → rateOf d .v ≤ 255 → rateOf d .rr ≤ 255
+    → cond (flagOf (wide (kindNumber d))) (Tms5220C (record { v = natural 255 (wide (rateOf d .v)); rr = natural 255 (wide (rateOf d .rr)) })) Tms5220 ≡ d
+kind-back Tms5220 v r = refl
+kind-back (Tms5220C q) v r = rw (natural-back 255 (q .v) v (omega arith), natural-back 255 (q .rr) r (omega arith))
 
 module _ (c : Chip) (f : InFormat c) where
   abbrev s : List ℤ
@@ -57,7 +64,7 @@ module _ (c : Chip) (f : InFormat c) where
         params-back s _ 29 (c .sound .current) (current-at c (f .sixteen)) (f .current),
         params-back s _ 41 (c .sound .target) (target-at c (f .sixteen) l) (f .target),
         memory-at c (f .sixteen) l (f .target .k .ten),
-        take-all 10 (c .sound .memory) (omega (arith, f .memory .ten)),
+        take-at (c .sound .memory) _ 10 (f .memory .ten),
         shorts-back (c .sound .memory) (f .memory .shorts),
         number s _ 24 3 27 refl e,
         number s _ 24 4 28 refl e,
@@ -87,9 +94,15 @@ module _ (c : Chip) (f : InFormat c) where
       let p = c .control .port in
       rw (flag-back (p .pending), natural-back 255 (p .«data») (f .«data») (omega arith), flag-back (p .interrupt))
 
+  device-back : deviceOf s ≡ c .control .device
+  device-back =
+      let e = device-at c (f .sixteen) (f .current .k .ten) (f .target .k .ten) (f .memory .ten) in
+      rw (number s _ 63 0 63 refl e, number s _ 63 1 64 refl e, number s _ 63 2 65 refl e) (kind-back (c .control .device) (f .v) (f .rr))
+
 pub state-length-is : StateLength
 state-length-is c f = state-length c (f .sixteen) (f .current .k .ten) (f .target .k .ten) (f .memory .ten)
 
 pub comes-back : ComesBack
 unfolding chipOf stateNumbers
-comes-back c f = rw (mode-back (c .control .mode), address-back c f, fifo-back c f, port-back c f, clock-back c f, sound-back c f)
+comes-back c f =
+    rw (mode-back (c .control .mode), address-back c f, fifo-back c f, port-back c f, clock-back c f, device-back c f, sound-back c f)

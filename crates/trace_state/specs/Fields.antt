@@ -1,11 +1,13 @@
 -- The chip as one list of numbers, in the order of the line `C` of a trace, and back.
+use mathlib.Core.Bool.{cond}
 use mathlib.Core.List.{List, [], _∷_, _++_, map}
 use Prim.Native.Nat.{ℕ, _+_}
 use lib.IntN.{ℤ, pos}
 use lib.ListN.{getD, take, drop}
 use Rattle.base.specs.Units.{samples, intervals}
-use Rattle.trace_state.specs.Types.{AddressRegister, Fifo, Port, Clock, Control, Params, Sound, Chip}
-use Rattle.trace_state.specs.Numbers.{wide, flag, modeNumber, natural, short, flagOf, modeOf}
+use Rattle.control.specs.Device.{rateOf}
+use Rattle.trace_state.specs.Types.{Device, Tms5220, Tms5220C, AddressRegister, Fifo, Port, Clock, Control, Params, Sound, Chip}
+use Rattle.trace_state.specs.Numbers.{wide, flag, modeNumber, kindNumber, natural, short, flagOf, modeOf}
 
 -- 1..8: mode, position, next nibble, data pending, data byte, interrupt, FIFO level, used bits of the oldest byte
 abbrev pub controlNumbers : Control → List ℕ
@@ -24,6 +26,10 @@ controlNumbers c =
 abbrev pub clockNumbers : Clock → ℕ → ℕ → List ℕ
 clockNumbers c noise pulse = flag (c .sounding) ∷ c .sample .0 ∷ c .interval .0 ∷ noise ∷ pulse ∷ []
 
+-- 64..66: device, v, rr; the last two are 0 on the TMS5220
+abbrev pub deviceFields : Device → List ℕ
+deviceFields d = kindNumber d ∷ rateOf d .v ∷ rateOf d .rr ∷ []
+
 -- energy, pitch, K1..K10
 abbrev pub paramNumbers : Params → List ℤ
 paramNumbers v = v .energy ∷ v .pitch ∷ v .k
@@ -36,7 +42,8 @@ stateNumbers c =
     ++ (map wide (clockNumbers (c .control .clock) (c .sound .noise) (c .sound .pulse))
     ++ (paramNumbers (c .sound .current)
     ++ (paramNumbers (c .sound .target)
-    ++ c .sound .memory))))
+    ++ (c .sound .memory
+    ++ map wide (deviceFields (c .control .device)))))))
 
 -- number i, counted from 0
 abbrev pub nth : List ℤ → ℕ → ℤ
@@ -70,6 +77,10 @@ paramsOf s at = record {
   k = map short (take 10 (drop (at + 2) s));
 }
 
+-- a TMS5220C with its v and rr, or a TMS5220, which has none
+abbrev pub deviceOf : List ℤ → Device
+deviceOf s = cond (flagOf (nth s 63)) (Tms5220C (record { v = natural 255 (nth s 64); rr = natural 255 (nth s 65) })) Tms5220
+
 -- currents, targets, filter memory, noise register, pulse place
 abbrev pub soundOf : List ℤ → Sound
 soundOf s = record {
@@ -83,6 +94,6 @@ soundOf s = record {
 -- the chip of a list of numbers; a number beyond its field's range in the format becomes the nearest end of the range
 unfoldable pub chipOf : List ℤ → Chip
 chipOf s = record {
-  control = record { mode = modeOf (nth s 0); address = addressOf s; fifo = fifoOf s; port = portOf s; clock = clockOf s };
+  control = record { mode = modeOf (nth s 0); address = addressOf s; fifo = fifoOf s; port = portOf s; clock = clockOf s; device = deviceOf s };
   sound = soundOf s;
 }

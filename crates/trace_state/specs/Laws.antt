@@ -5,6 +5,7 @@ use Prim.Native.Nat.{ℕ, _≤_, _<_, _^_}
 use lib.IntN.{ℤ, pos}
 use lib.ListN.{length, getD}
 use Rattle.base.specs.Range.{Between}
+use Rattle.control.specs.Device.{rateOf}
 use Rattle.trace_script.specs.Script.{stateLength}
 use Rattle.trace_state.specs.Types.{Params, Chip}
 use Rattle.trace_state.specs.Fields.{stateNumbers, chipOf}
@@ -31,6 +32,8 @@ pub record InFormat (c : Chip) : Type 0 where
   pub bytes : (i : ℕ) → getD (c .control .fifo .bytes) i 0 ≤ 255
   pub sample : c .control .clock .sample .0 ≤ 255
   pub interval : c .control .clock .interval .0 ≤ 255
+  pub v : rateOf (c .control .device) .v ≤ 255
+  pub rr : rateOf (c .control .device) .rr ≤ 255
   pub noise : c .sound .noise ≤ 32767
   pub pulse : c .sound .pulse ≤ 32767
   pub current : ParamsInFormat (c .sound .current)

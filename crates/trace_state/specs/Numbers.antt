@@ -6,7 +6,7 @@ use lib.Dec.{eqb}
 use lib.IntN.{ℤ, pos, negsuc, negℤ}
 use lib.ListN.{getD}
 use Rattle.base.specs.Range.{clamped}
-use Rattle.trace_state.specs.Types.{Mode, Idle, Rom, Waiting, External}
+use Rattle.trace_state.specs.Types.{Device, Tms5220, Tms5220C, Mode, Idle, Rom, Waiting, External}
 
 -- a natural number, of which an i64 holds 63 bits
 abbrev pub wide : ℕ → ℤ
@@ -23,6 +23,11 @@ modeNumber Idle = 0
 modeNumber Rom = 1
 modeNumber Waiting = 2
 modeNumber External = 3
+
+-- 0 TMS5220, 1 TMS5220C
+abbrev pub kindNumber : Device → ℕ
+kindNumber Tms5220 = 0
+kindNumber (Tms5220C r) = 1
 
 -- what is beyond 0..most becomes its nearest end
 abbrev pub natural : ℕ → ℤ → ℕ

@@ -1,6 +1,9 @@
 -- The declared types of the chip, by short names.
 pub use Rattle.sound.specs.declared.params.Params.{Params}
 pub use Rattle.sound.specs.declared.state.Sound.{Sound}
+pub use Rattle.rates.specs.declared.rate.FrameRate.{FrameRate}
+pub use Rattle.control.specs.declared.device.Device.{Device}
+pub use Rattle.control.specs.declared.device.Device.the-variants.{Tms5220, Tms5220C}
 pub use Rattle.control.specs.declared.state.Mode.{Mode}
 pub use Rattle.control.specs.declared.state.Mode.the-variants.{Idle, Rom, Waiting, External}
 pub use Rattle.address.specs.declared.AddressRegister.{AddressRegister}

@@ -5,7 +5,7 @@ ghost use Prim.Native.Nat.{_<_, _≤_};
 ghost use lib.ListN.{take, drop};
 ghost use Rattle.trace_script.specs.Script.{stateLength};
 ghost use Rattle.trace_state.specs.Numbers.{natural, short, flagOf, modeOf};
-ghost use Rattle.trace_state.specs.Fields.{nth, addressOf, fifoOf, portOf, clockOf, paramsOf, soundOf, chipOf};
+ghost use Rattle.trace_state.specs.Fields.{nth, addressOf, fifoOf, portOf, clockOf, deviceOf, paramsOf, soundOf, chipOf};
 use crate::numbers::Numbers;
 use crate::numbers::natural;
 use crate::numbers::short;
@@ -14,10 +14,12 @@ use base::units::Intervals;
 use base::units::Samples;
 use chip::state::Chip;
 use clock::Clock;
+use control::device::Device;
 use control::state::Control;
 use control::state::Mode;
 use control::state::Port;
 use fifo::Fifo;
+use rates::rate::FrameRate;
 use sound::params::Params;
 use sound::state::Sound;
 
@@ -126,6 +128,19 @@ fn clock_of(numbers: Numbers) -> Clock
     }
 }
 
+fn device_of(numbers: Numbers) -> Device
+    ensures { λ r. ⌜ r ≡ deviceOf numbers ⌝ }
+{
+    let rated = flag_at(numbers, 63);
+    if rated {
+        return Device::Tms5220C(FrameRate {
+            v: byte_at(numbers, 64),
+            rr: byte_at(numbers, 65),
+        });
+    }
+    Device::Tms5220
+}
+
 // The parameters from number `at` on.
 fn params_of(numbers: Numbers, at: usize) -> Params
     requires { ⌜ at ≤ 51 ⌝ }
@@ -163,6 +178,7 @@ pub fn state_of(numbers: Numbers) -> Chip
     let fifo = fifo_of(numbers);
     let port = port_of(numbers);
     let clock = clock_of(numbers);
+    let device = device_of(numbers);
     let sound = sound_of(numbers);
     Chip {
         control: Control {
@@ -171,6 +187,7 @@ pub fn state_of(numbers: Numbers) -> Chip
             fifo,
             port,
             clock,
+            device,
         },
         sound,
     }

@@ -1,7 +1,8 @@
 // The numbers of a list: what a field's value becomes as an i64, and what an i64 becomes as a field's value.
 ghost use mathlib.Core.Path.{_≡_};
 ghost use Prim.Native.Nat.{_≤_};
-ghost use Rattle.trace_state.specs.Numbers.{wide, flag, modeNumber, natural, short};
+ghost use Rattle.trace_state.specs.Numbers.{wide, flag, modeNumber, kindNumber, natural, short};
+use control::device::Device;
 use control::state::Mode;
 use trace_script::STATE_LENGTH;
 
@@ -35,6 +36,15 @@ pub(crate) fn mode_number(mode: Mode) -> u64
         Mode::Rom => 1,
         Mode::Waiting => 2,
         Mode::External => 3,
+    }
+}
+
+pub(crate) fn kind_number(device: Device) -> u64
+    ensures { λ r. ⌜ r ≡ kindNumber device ⌝ }
+{
+    match device {
+        Device::Tms5220 => 0,
+        Device::Tms5220C(_) => 1,
     }
 }
 

@@ -4,14 +4,16 @@ ghost use Prim.Native.Nat.{_<_};
 ghost use lib.IntN.{pos};
 ghost use lib.ListN.{getD};
 ghost use Rattle.trace_script.specs.Script.{stateLength};
-ghost use Rattle.trace_state.specs.Fields.{controlNumbers, clockNumbers, paramNumbers, stateNumbers};
+ghost use Rattle.trace_state.specs.Fields.{controlNumbers, clockNumbers, deviceFields, paramNumbers, stateNumbers};
 use crate::numbers::Numbers;
 use crate::numbers::flag;
+use crate::numbers::kind_number;
 use crate::numbers::long;
 use crate::numbers::mode_number;
 use crate::numbers::wide;
 use chip::state::Chip;
 use clock::Clock;
+use control::device::Device;
 use control::state::Control;
 use sound::params::Params;
 use trace_script::STATE_LENGTH;
@@ -46,6 +48,14 @@ fn clock_numbers(clock: Clock, noise: u32, pulse: u32) -> [u64; 5]
         noise as u64,
         pulse as u64,
     ]
+}
+
+// The device, and the rate that is set on it.
+fn device_fields(device: Device) -> [u64; 3]
+    ensures { λ r. ⌜ r ≡ deviceFields device ⌝ }
+{
+    let rate = device.rate();
+    [kind_number(device), rate.v as u64, rate.rr as u64]
 }
 
 fn ten_number(ten: [i32; 10], i: usize) -> i64
@@ -97,8 +107,13 @@ fn field(chip: Chip, i: usize) -> i64
         let target = sound.target;
         return param_number(target, i - 41);
     }
-    let memory = sound.memory;
-    ten_number(memory, i - 53)
+    if i < 63 {
+        let memory = sound.memory;
+        return ten_number(memory, i - 53);
+    }
+    let device = control.device;
+    let list = device_fields(device);
+    wide(list[i - 63])
 }
 
 // The numbers of a chip.

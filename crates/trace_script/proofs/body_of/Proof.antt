@@ -12,14 +12,24 @@ body-of-spec =
     (λ c. rw (c .if1 .taken))
     (λ c. rw (c .before .if1 .left, eq-eqb _ 87 (c .if2 .taken)))
     (λ c. rw (c .before .before .if1 .left, ne-eqb _ 87 (c .before .if2 .left), c .if3 .taken))
-    (λ c. search needs)
     (λ c.
     let b = c .before .before in
-    rw (b .before .if1 .left, ne-eqb _ 87 (b .if2 .left), c .before .if3 .left, eq-eqb _ 83 (c .if4 .taken)))
+    rw (b .before .if1 .left, ne-eqb _ 87 (b .if2 .left), c .before .if3 .left, eq-eqb _ 71 (c .if4 .taken)))
+    (λ c.
+    let d = c .before in
+    let b = d .before .before in
+    rw (b .before .if1 .left, ne-eqb _ 87 (b .if2 .left), d .before .if3 .left, ne-eqb _ 71 (d .if4 .left), eq-eqb _ 66 (c .if5 .taken)))
     (λ c. search needs)
     (λ c.
-    let b = c .before .before .before in
-    rw (b .before .if1 .left, ne-eqb _ 87 (b .if2 .left), c .before .before .if3 .left, ne-eqb _ 83 (c .before .if4 .left), c .if5 .taken))
+    let d = c .before .before in
+    let b = d .before .before in
+    rw (b .before .if1 .left, ne-eqb _ 87 (b .if2 .left), d .before .if3 .left, ne-eqb _ 71 (d .if4 .left), ne-eqb _ 66 (c .before .if5 .left), eq-eqb _ 83 (c .if6 .taken)))
+    (λ c. search needs)
     (λ c.
-    let b = c .before .before .before in
-    rw (b .before .if1 .left, ne-eqb _ 87 (b .if2 .left), c .before .before .if3 .left, ne-eqb _ 83 (c .before .if4 .left), c .if5 .left)))
+    let d = c .before .before .before in
+    let b = d .before .before in
+    rw (b .before .if1 .left, ne-eqb _ 87 (b .if2 .left), d .before .if3 .left, ne-eqb _ 71 (d .if4 .left), ne-eqb _ 66 (c .before .before .if5 .left), ne-eqb _ 83 (c .before .if6 .left), c .if7 .taken))
+    (λ c.
+    let d = c .before .before .before in
+    let b = d .before .before in
+    rw (b .before .if1 .left, ne-eqb _ 87 (b .if2 .left), d .before .if3 .left, ne-eqb _ 71 (d .if4 .left), ne-eqb _ 66 (c .before .before .if5 .left), ne-eqb _ 83 (c .before .if6 .left), c .if7 .left)))

@@ -8,5 +8,5 @@ pub state-of-spec : {M : Type 1} → statement M
 unfolding chipOf
 state-of-spec =
     tie.close (tie.spec (λ c κs. search needs) (λ c κs. search needs) (λ c κs. search needs) (λ c κs. search needs)
-    (λ c κs. search needs) (λ c κs. search needs)
-    (λ c. rw (c .before .before .before .before .before .mode-at .ensures, c .before .before .before .before .address-of .ensures, c .before .before .before .fifo-of .ensures, c .before .before .port-of .ensures, c .before .clock-of .ensures, c .sound-of .ensures)))
+    (λ c κs. search needs) (λ c κs. search needs) (λ c κs. search needs)
+    (λ c. let b = c .before .before in rw (b .before .before .before .before .mode-at .ensures, b .before .before .before .address-of .ensures, b .before .before .fifo-of .ensures, b .before .port-of .ensures, b .clock-of .ensures, c .before .device-of .ensures, c .sound-of .ensures)))

@@ -3,7 +3,7 @@ use borrow.Author.Needs.{needs}
 use mathlib.Core.Path.{_≡_, _∙_}
 use lib.ListN.{length}
 use Rattle.base.proofs.Signed.{returned}
-use Rattle.trace_state.proofs.Places.{control-is, bytes-is, clock-is, current-is, target-is, memory-is}
+use Rattle.trace_state.proofs.Places.{control-is, bytes-is, clock-is, current-is, target-is, memory-is, device-is}
 use Rattle.trace_state.proofs.to_list.field.Statement.{statement}
 use Rattle.trace_state.proofs.to_list.field.Tie as tie
 
@@ -16,6 +16,9 @@ module _ (s : tie.Start) where
 
   target : length (s .args .chip .sound .target .k) ≡ 10
   target = search needs
+
+  memory : length (s .args .chip .sound .memory) ≡ 10
+  memory = search needs
 
 pub field-spec : {M : Type 1} → statement M
 field-spec =
@@ -42,6 +45,11 @@ field-spec =
     returned (p .ok) (p .ensures ∙ target-is _ (sixteen s) (current s) (target s) _ (search needs) (search needs)))
     (λ c κs. search needs)
     (λ c.
-    let s = c .before .before .before .before .before .before .before .before .before in
+    let s = c .before .before .before .before .before .before .before .before .before .before in
     let t = c .ten-number in
-    returned (t .ok) (t .ensures ∙ memory-is _ (sixteen s) (current s) (target s) _ (search needs))))
+    returned (t .ok) (t .ensures ∙ memory-is _ (sixteen s) (current s) (target s) (memory s) _ (search needs) (search needs)))
+    (λ c κs. search needs) (λ c. search needs) (λ c. search needs) (λ c κs. search needs)
+    (λ c.
+    let s = c .before .before .before .before .before .before .before .before .before .before in
+    let e = rw (c .before .device-fields .ensures) at (c .wide4 .ensures) in
+    returned (c .wide4 .ok) (e ∙ device-is _ (sixteen s) (current s) (target s) (memory s) _ (search needs))))
