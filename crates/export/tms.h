@@ -10,6 +10,11 @@
 uint8_t tms_walk(const uint8_t *image, size_t image_length, size_t address, size_t *bits, uint32_t *frames, uint64_t *intervals,
                  uint64_t *samples);
 
+/* The same for a TMS5220C whose Load Frame Rate has set v (0 or 1) and rr (0 to 3); 4 for any other. With v = 1 every frame begins
+   with two rate bits, and each lasts by its own rate. */
+uint8_t tms_walk_5220c(const uint8_t *image, size_t image_length, size_t address, uint8_t v, uint8_t rr, size_t *bits,
+                       uint32_t *frames, uint64_t *intervals, uint64_t *samples);
+
 /* The check of a voice file. */
 uint8_t tms_voice_check(const uint8_t *voice, size_t voice_length);
 
@@ -17,7 +22,11 @@ uint8_t tms_voice_check(const uint8_t *voice, size_t voice_length);
 uint8_t tms_speak(const uint8_t *image, size_t image_length, const uint8_t *voice, size_t voice_length, size_t address,
                   int16_t *out, size_t out_length);
 
-/* The same by a sample step for each element of the buffer. */
+/* The same on a TMS5220C: Load Frame Rate with v and rr comes ahead of the loads; 4 for a v or rr out of range. */
+uint8_t tms_speak_5220c(const uint8_t *image, size_t image_length, const uint8_t *voice, size_t voice_length, size_t address,
+                        uint8_t v, uint8_t rr, int16_t *out, size_t out_length);
+
+/* `tms_speak` by a sample step for each element of the buffer. */
 uint8_t tms_speak_by_steps(const uint8_t *image, size_t image_length, const uint8_t *voice, size_t voice_length, size_t address,
                            int16_t *out, size_t out_length);
 
