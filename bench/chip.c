@@ -4,9 +4,19 @@
 
 static const struct sound at_rest = {.noise = 8191};
 
+static void start(struct chip *c, bool is_5220c)
+{
+    *c = (struct chip){.is_5220c = is_5220c, .sound = at_rest};
+}
+
 void power_up(struct chip *c)
 {
-    *c = (struct chip){.sound = at_rest};
+    start(c, false);
+}
+
+void power_up_5220c(struct chip *c)
+{
+    start(c, true);
 }
 
 /* ---- the ranges */
@@ -43,6 +53,12 @@ static bool fifo_valid(const struct chip *c)
     return true;
 }
 
+/* A TMS5220 has no rate to load: its frames take no rate bits and last 200 samples. */
+static bool device_valid(const struct chip *c)
+{
+    return c->is_5220c ? rate_valid(c->rate) : c->rate.v == 0 && c->rate.rr == 0;
+}
+
 static bool speaks(enum mode mode)
 {
     return mode == ROM || mode == EXTERNAL;
@@ -50,7 +66,7 @@ static bool speaks(enum mode mode)
 
 static bool valid(const struct chip *c)
 {
-    if (c->position > 2097152 || c->nibble > 4 || !fifo_valid(c))
+    if (c->position > 2097152 || c->nibble > 4 || !fifo_valid(c) || !device_valid(c))
         return false;
     if (c->pending ? c->mode != IDLE : c->byte != 0)
         return false;
@@ -62,7 +78,8 @@ static bool valid(const struct chip *c)
 
 /* ---- a byte written */
 
-enum command { READ_BYTE = 1, BRANCH = 3, LOAD = 4, SPEAK = 5, SPEAK_EXTERNAL = 6, RESET = 7 };
+/* by the middle code; Load Frame Rate has two */
+enum command { LOAD_RATE, READ_BYTE, LOAD_RATE_TOO, BRANCH, LOAD, SPEAK, SPEAK_EXTERNAL, RESET };
 
 static bool beyond(const struct chip *c, struct bytes image, enum command command)
 {
@@ -116,11 +133,21 @@ static void branch(struct chip *c, struct bytes image)
     c->nibble = 0;
 }
 
+static void load_rate(struct chip *c, uint8_t byte)
+{
+    if (c->is_5220c)
+        c->rate = (struct rate){.v = byte >> 2 & 1, .rr = byte & 3};
+}
+
 static void obey(struct chip *c, struct bytes image, uint8_t byte, enum command command)
 {
     c->pending = false;
     c->byte = 0;
     switch (command) {
+    case LOAD_RATE:
+    case LOAD_RATE_TOO:
+        load_rate(c, byte);
+        break;
     case READ_BYTE:
         c->pending = true;
         c->byte = field(image, c->position, 8);
@@ -141,9 +168,7 @@ static void obey(struct chip *c, struct bytes image, uint8_t byte, enum command 
         c->mode = WAITING;
         break;
     case RESET:
-        power_up(c);
-        break;
-    default:
+        start(c, c->is_5220c);
         break;
     }
 }
@@ -155,7 +180,7 @@ int chip_write(struct chip *c, struct bytes image, uint8_t byte)
     if (fault)
         return fault;
     if (c->mode == ROM)
-        power_up(c);
+        start(c, c->is_5220c);
     else if (c->mode == IDLE)
         obey(c, image, byte, command);
     else {
@@ -222,7 +247,7 @@ static bool take_frame(struct chip *c, struct bytes image, struct frame *f)
 {
     size_t next;
     if (c->mode == ROM) {
-        if (!frame_at(image, c->position, f, &next)) {
+        if (!frame_at(image, c->position, c->rate, f, &next)) {
             if (c->position < 8 * image.length)
                 c->position = 8 * image.length;
             change(c, IDLE, 0);
@@ -231,7 +256,7 @@ static bool take_frame(struct chip *c, struct bytes image, struct frame *f)
         c->position = next;
     } else {
         struct bytes held = {c->fifo, c->level};
-        if (!frame_at(held, c->used, f, &next) || (f->kind != STOP && next == 8 * held.length)) {
+        if (!frame_at(held, c->used, c->rate, f, &next) || (f->kind != STOP && next == 8 * held.length)) {
             change(c, IDLE, 0);
             empty(c);
             return false;
@@ -259,6 +284,7 @@ static bool boundary(struct chip *c, struct bytes image, struct bytes voice, str
         return false;
     }
     answer->report = answer->frame.kind == STOP ? STOPPED : FRAME;
+    c->interval = first_interval(c->rate, answer->frame.rate);
     set_targets(&c->sound, voice.at, &answer->frame);
     return true;
 }

@@ -1,4 +1,4 @@
-/* The TMS5220 by document 01's rules, in plain C: what the proved library is compared with. */
+/* The TMS5220 by document 01's rules and the TMS5220C by document 02's, in plain C: what the proved library is compared with. */
 #include <stdbool.h>
 #include <stddef.h>
 #include <stdint.h>
@@ -15,11 +15,17 @@ struct bytes {
 
 /* ---- frames and the walk: rom.c */
 
+/* what Load Frame Rate sets; zeros on a TMS5220 */
+struct rate {
+    uint8_t v, rr;
+};
+
 enum kind { SILENCE, STOP, REPEAT, UNVOICED, VOICED };
 
+/* a frame and the rate bits before it, 0 where there are none */
 struct frame {
     enum kind kind;
-    unsigned energy, pitch, k[10];
+    unsigned rate, energy, pitch, k[10];
 };
 
 struct walk {
@@ -30,8 +36,13 @@ struct walk {
 
 bool image_valid(struct bytes image);
 unsigned field(struct bytes s, size_t bit, unsigned width);
-bool frame_at(struct bytes s, size_t bit, struct frame *frame, size_t *next);
+bool frame_at(struct bytes s, size_t bit, struct rate rate, struct frame *frame, size_t *next);
 int walk(struct bytes image, size_t address, struct walk *answer);
+
+bool rate_valid(struct rate rate);
+unsigned first_interval(struct rate rate, unsigned bits);
+int rate_fault(struct bytes image, size_t address, struct rate rate);
+int walk_rated(struct bytes image, size_t address, struct rate rate, struct walk *answer);
 
 /* ---- the voice file: voice.c */
 
@@ -53,6 +64,8 @@ enum mode { IDLE, ROM, WAITING, EXTERNAL };
 
 struct chip {
     enum mode mode;
+    bool is_5220c;
+    struct rate rate;
     size_t position;
     unsigned nibble;
     uint8_t fifo[16];
@@ -72,6 +85,7 @@ struct step {
 };
 
 void power_up(struct chip *c);
+void power_up_5220c(struct chip *c);
 int chip_write(struct chip *c, struct bytes image, uint8_t byte);
 int chip_read(struct chip *c, uint8_t *byte);
 int chip_step(struct chip *c, struct bytes image, struct bytes voice, struct step *answer);

@@ -2,14 +2,28 @@
 #include "chip.h"
 #include "host.h"
 
-const struct version plain = {c_walk, c_voice_check, c_speak, c_speak_by_steps, c_speak_external};
-const struct version proved = {tms_walk, tms_voice_check, tms_speak, tms_speak_by_steps, tms_speak_external};
+const struct version plain = {c_walk, c_walk_5220c, c_voice_check, c_speak, c_speak_by_steps, c_speak_5220c,
+                              c_speak_external};
+const struct version proved = {tms_walk, tms_walk_5220c, tms_voice_check, tms_speak, tms_speak_by_steps, tms_speak_5220c,
+                               tms_speak_external};
 
 uint8_t c_walk(const uint8_t *image, size_t image_length, size_t address, size_t *bits, uint32_t *frames,
                uint64_t *intervals, uint64_t *samples)
 {
     struct walk answer;
     int refusal = walk((struct bytes){image, image_length}, address, &answer);
+    *bits = answer.bits;
+    *frames = answer.frames;
+    *intervals = answer.intervals;
+    *samples = answer.samples;
+    return refusal;
+}
+
+uint8_t c_walk_5220c(const uint8_t *image, size_t image_length, size_t address, uint8_t v, uint8_t rr, size_t *bits,
+                     uint32_t *frames, uint64_t *intervals, uint64_t *samples)
+{
+    struct walk answer;
+    int refusal = walk_rated((struct bytes){image, image_length}, address, (struct rate){v, rr}, &answer);
     *bits = answer.bits;
     *frames = answer.frames;
     *intervals = answer.intervals;
@@ -33,13 +47,19 @@ static int give(struct chip *c, struct bytes image, const uint8_t *bytes, size_t
     return TAKEN;
 }
 
+/* The five loads of an address and Speak. */
+static void put_speak(uint8_t bytes[6], size_t address)
+{
+    for (int i = 0; i < 5; i++)
+        bytes[i] = 0x40 | (address >> 4 * i & 15);
+    bytes[5] = 0x50;
+}
+
 static int begin(struct chip *c, struct bytes image, size_t address)
 {
     uint8_t bytes[6];
     size_t taken;
-    for (int i = 0; i < 5; i++)
-        bytes[i] = 0x40 | (address >> 4 * i & 15);
-    bytes[5] = 0x50;
+    put_speak(bytes, address);
     power_up(c);
     if (!image_valid(image))
         return IMAGE;
@@ -48,12 +68,33 @@ static int begin(struct chip *c, struct bytes image, size_t address)
     return give(c, image, bytes, 6, &taken);
 }
 
+/* The same on a TMS5220C, with Load Frame Rate ahead of the loads. */
+static int begin_rated(struct chip *c, struct bytes image, size_t address, struct rate rate)
+{
+    uint8_t bytes[7];
+    size_t taken;
+    bytes[0] = 4 * rate.v + rate.rr;
+    put_speak(bytes + 1, address);
+    power_up_5220c(c);
+    int fault = rate_fault(image, address, rate);
+    return fault ? fault : give(c, image, bytes, 7, &taken);
+}
+
 uint8_t c_speak(const uint8_t *image, size_t image_length, const uint8_t *voice, size_t voice_length, size_t address,
                 int16_t *out, size_t out_length)
 {
     struct bytes rom = {image, image_length}, file = {voice, voice_length};
     struct chip c;
     int refusal = begin(&c, rom, address);
+    return refusal ? refusal : chip_run(&c, rom, file, out, out_length);
+}
+
+uint8_t c_speak_5220c(const uint8_t *image, size_t image_length, const uint8_t *voice, size_t voice_length, size_t address,
+                      uint8_t v, uint8_t rr, int16_t *out, size_t out_length)
+{
+    struct bytes rom = {image, image_length}, file = {voice, voice_length};
+    struct chip c;
+    int refusal = begin_rated(&c, rom, address, (struct rate){v, rr});
     return refusal ? refusal : chip_run(&c, rom, file, out, out_length);
 }
 

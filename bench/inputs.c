@@ -1,14 +1,22 @@
 #include <string.h>
 #include "inputs.h"
 
-const struct mix all_silence = {100, 0, 0}, all_voiced = {0, 0, 0}, all_unvoiced = {0, 0, 100}, speech = {10, 25, 25};
+const struct mix all_silence = {100, 0, 0, NO_RATE}, all_voiced = {0, 0, 0, NO_RATE}, all_unvoiced = {0, 0, 100, NO_RATE},
+                 speech = {10, 25, 25, NO_RATE}, speech_rate_zero = {10, 25, 25, RATE_ZERO},
+                 speech_any_rate = {10, 25, 25, ANY_RATE};
 
-static uint64_t seed = 1;
+enum { SEED = 1 };
+static uint64_t seed = SEED;
 
 int between(int low, int high)
 {
     seed = seed * 6364136223846793005u + 1442695040888963407u;
     return low + (int)((seed >> 33) % (uint64_t)(high - low + 1));
+}
+
+void begin_again(void)
+{
+    seed = SEED;
 }
 
 static void put_word(uint8_t *at, int word)
@@ -58,6 +66,12 @@ static void put_ks(struct image *image, size_t *bit, int count)
         put(image, bit, width[i], between(0, 255) & ((1 << width[i]) - 1));
 }
 
+static void put_rate(struct image *image, size_t *bit, enum rate_bits rate)
+{
+    if (rate != NO_RATE)
+        put(image, bit, 2, rate == ANY_RATE ? between(0, 3) : 0);
+}
+
 static void put_frame(struct image *image, size_t *bit, struct mix mix)
 {
     int kind = between(1, 100);
@@ -77,16 +91,20 @@ static void put_frame(struct image *image, size_t *bit, struct mix mix)
 
 void make_image(struct image *image, size_t length, struct mix mix, size_t stop_after)
 {
-    size_t bit = 0;
+    /* what rate bits add to a frame and the stop at the end */
+    size_t bit = 0, more = mix.rate == NO_RATE ? 0 : 4;
     memset(image->bytes, 0, sizeof image->bytes);
     image->length = length;
-    for (image->count = 0; bit + 54 <= 8 * length || (mix.silence == 100 && bit + 8 <= 8 * length); image->count++) {
+    for (image->count = 0; bit + 54 + more <= 8 * length || (mix.silence == 100 && bit + 8 + more <= 8 * length);
+         image->count++) {
+        put_rate(image, &bit, mix.rate);
         image->first[image->count] = bit;
         if (stop_after && image->count % (stop_after + 1) == stop_after)
             put(image, &bit, 4, 15);
         else
             put_frame(image, &bit, mix);
     }
+    put_rate(image, &bit, mix.rate);
     image->first[image->count++] = bit;
     put(image, &bit, 4, 15);
 }

@@ -24,11 +24,18 @@ static uint64_t digest_of(const struct workload *w, const struct version *v, siz
     return digest;
 }
 
+/* The same numbers for each workload, whichever came before it. */
+static void prepare(const struct workload *w)
+{
+    begin_again();
+    w->prepare();
+}
+
 static int compare_workloads(void)
 {
     for (size_t i = 0; i < workload_count; i++) {
         const struct workload *w = &workloads[i];
-        w->prepare();
+        prepare(w);
         if (digest_of(w, &plain, w->timed) != digest_of(w, &proved, w->timed)) {
             printf("%s differs\n", w->name);
             return 1;
@@ -38,16 +45,45 @@ static int compare_workloads(void)
     return 0;
 }
 
+static const struct workload *named(const char *name)
+{
+    for (size_t i = 0; i < workload_count; i++)
+        if (!strcmp(workloads[i].name, name))
+            return &workloads[i];
+    abort();
+}
+
+/* Rate 0 is that of a TMS5220: these speak the same frames, and so must give the same samples. */
+static int compare_rates(void)
+{
+    static const char *const names[] = {"run, mixed", "run, mixed, 5220C", "run, mixed, rate bits"};
+    enum { COUNT = sizeof names / sizeof *names };
+    uint64_t first = 0;
+    for (int i = 0; i < COUNT; i++) {
+        const struct workload *w = named(names[i]);
+        prepare(w);
+        uint64_t found = digest_of(w, &proved, w->timed);
+        if (i == 0)
+            first = found;
+        if (found != first) {
+            printf("%s differs from %s\n", names[i], names[0]);
+            return 1;
+        }
+    }
+    printf("%d runs at rate 0, the same samples\n", COUNT);
+    return 0;
+}
+
 enum { MOST = 4000 };
 
 struct answer {
-    uint8_t refusal[5];
-    uint64_t walked[4];
-    int16_t out[3][MOST];
+    uint8_t refusal[7];
+    uint64_t walked[2][4];
+    int16_t out[4][MOST];
 };
 
 struct input {
-    uint8_t image[1000], voice[640], bytes[1000];
+    uint8_t image[1000], voice[640], bytes[1000], v, rr;
     size_t image_length, voice_length, bytes_length, address, length;
 };
 
@@ -75,15 +111,31 @@ static void spoil_voice(struct input *in)
     }
 }
 
-/* Mostly valid: frames or any bytes, an address at times past the end or past every image, a voice file at times spoilt. */
-static void make_input(struct input *in)
+/* A number up to the most, at times the next one or 255. */
+static uint8_t mostly_up_to(int most)
+{
+    if (between(0, 9))
+        return between(0, most);
+    return between(0, 1) ? most + 1 : 255;
+}
+
+static void make_frames(uint8_t *bytes, size_t length, enum rate_bits rate)
 {
     static struct image frames;
-    static const struct mix mixes[] = {{10, 25, 25}, {40, 20, 20}, {0, 50, 30}};
-    make_image(&frames, sizeof in->image, mixes[between(0, 2)], between(1, 40));
-    memcpy(in->image, frames.bytes, sizeof in->image);
-    make_image(&frames, sizeof in->bytes, mixes[between(0, 2)], between(1, 40));
-    memcpy(in->bytes, frames.bytes, sizeof in->bytes);
+    static const struct mix mixes[] = {{10, 25, 25, NO_RATE}, {40, 20, 20, NO_RATE}, {0, 50, 30, NO_RATE}};
+    struct mix mix = mixes[between(0, 2)];
+    mix.rate = rate;
+    make_image(&frames, length, mix, between(1, 40));
+    memcpy(bytes, frames.bytes, length);
+}
+
+/* Mostly valid: frames, with rate bits or without, or any bytes, an address at times past the end or past every image, a voice
+   file at times spoilt, a frame rate at times out of range. */
+static void make_input(struct input *in)
+{
+    static const enum rate_bits rates[] = {NO_RATE, RATE_ZERO, ANY_RATE};
+    make_frames(in->image, sizeof in->image, rates[between(0, 2)]);
+    make_frames(in->bytes, sizeof in->bytes, NO_RATE);
     if (between(0, 3) == 0)
         for (size_t i = 0; i < sizeof in->image; i++)
             in->image[i] = between(0, 255);
@@ -97,29 +149,43 @@ static void make_input(struct input *in)
         spoil_voice(in);
     in->address = between(0, in->image_length + 1) + (between(0, 9) ? 0 : 262144);
     in->length = between(0, MOST);
+    in->v = mostly_up_to(1);
+    in->rr = mostly_up_to(3);
+}
+
+static void walks_by(const struct version *v, const struct input *in, struct answer *a)
+{
+    size_t bits[2];
+    uint32_t frames[2];
+    a->refusal[0] = v->walk(in->image, in->image_length, in->address, &bits[0], &frames[0], &a->walked[0][0],
+                            &a->walked[0][1]);
+    a->refusal[5] = v->walk_5220c(in->image, in->image_length, in->address, in->v, in->rr, &bits[1], &frames[1],
+                                  &a->walked[1][0], &a->walked[1][1]);
+    for (int i = 0; i < 2; i++) {
+        a->walked[i][2] = bits[i];
+        a->walked[i][3] = frames[i];
+    }
 }
 
 static void answer_by(const struct version *v, const struct input *in, struct answer *a)
 {
-    size_t bits;
-    uint32_t frames;
     memset(a, 0, sizeof *a);
-    a->refusal[0] = v->walk(in->image, in->image_length, in->address, &bits, &frames, &a->walked[0], &a->walked[1]);
-    a->walked[2] = bits;
-    a->walked[3] = frames;
+    walks_by(v, in, a);
     a->refusal[1] = v->check(in->voice, in->voice_length);
     a->refusal[2] = v->speak(in->image, in->image_length, in->voice, in->voice_length, in->address, a->out[0], in->length);
     a->refusal[3] = v->speak_by_steps(in->image, in->image_length, in->voice, in->voice_length, in->address, a->out[1],
                                       in->length / 4);
     a->refusal[4] = v->speak_external(in->image, in->image_length, in->voice, in->voice_length, in->bytes,
                                       in->bytes_length, a->out[2], in->length);
+    a->refusal[6] = v->speak_5220c(in->image, in->image_length, in->voice, in->voice_length, in->address, in->v, in->rr,
+                                   a->out[3], in->length);
 }
 
 static int compare_random(int rounds)
 {
     static struct input in;
     static struct answer by_c, by_rattle;
-    int taken = 0;
+    int taken = 0, taken_rated = 0;
     for (int r = 0; r < rounds; r++) {
         make_input(&in);
         answer_by(&plain, &in, &by_c);
@@ -129,8 +195,9 @@ static int compare_random(int rounds)
             return 1;
         }
         taken += by_c.refusal[2] == 0;
+        taken_rated += by_c.refusal[6] == 0;
     }
-    printf("%d random inputs, %d of them spoken, the same answers and samples\n", rounds, taken);
+    printf("%d random inputs, %d of them spoken, %d by a 5220C, the same answers and samples\n", rounds, taken, taken_rated);
     return 0;
 }
 
@@ -164,7 +231,7 @@ static void time_both(const struct workload *w)
 {
     static double by_c[TURNS], by_rattle[TURNS], ratio[TURNS];
     double unit = 1e9 / (w->timed / TURNS_IN_ALL);
-    w->prepare();
+    prepare(w);
     for (int i = 0; i < TURNS; i++) {
         by_c[i] = unit * seconds(w, &plain);
         by_rattle[i] = unit * seconds(w, &proved);
@@ -193,7 +260,7 @@ int main(int argc, char **argv)
 {
     const char *what = argc > 1 ? argv[1] : "";
     if (!strcmp(what, "compare"))
-        return compare_workloads() || compare_random(3000);
+        return compare_workloads() || compare_rates() || compare_random(3000);
     if (!strcmp(what, "list")) {
         for (size_t i = 0; i < workload_count; i++) {
             const struct workload *w = &workloads[i];
@@ -202,7 +269,7 @@ int main(int argc, char **argv)
         return 0;
     }
     if (!strcmp(what, "space")) {
-        workloads[0].prepare();
+        prepare(&workloads[0]);
         printf("%zu %zu %zu\n", sizeof(struct chip), stack_use(run_by_c), stack_use(run_by_rattle));
         return 0;
     }
@@ -214,7 +281,7 @@ int main(int argc, char **argv)
         return 0;
     }
     if (!strcmp(what, "work") && argc == 5) {
-        workloads[i].prepare();
+        prepare(&workloads[i]);
         workloads[i].work(*argv[3] == 'C' ? &plain : &proved, atol(argv[4]));
         return 0;
     }

@@ -1,4 +1,4 @@
-/* Bits of an image, frames, and the phrase walk. */
+/* Bits of an image, frames, frame rates, and the phrase walks. */
 #include "chip.h"
 
 bool image_valid(struct bytes image)
@@ -36,9 +36,19 @@ static unsigned head(struct bytes s, size_t bit, struct frame *f)
     return f->pitch ? 50 : 29;
 }
 
-bool frame_at(struct bytes s, size_t bit, struct frame *f, size_t *next)
+/* Passes the rate bits before a frame, where v says that there are any. */
+static unsigned rate_bits(struct bytes s, size_t *bit, struct rate rate)
+{
+    if (!rate.v)
+        return 0;
+    *bit += 2;
+    return field(s, *bit - 2, 2);
+}
+
+bool frame_at(struct bytes s, size_t bit, struct rate rate, struct frame *f, size_t *next)
 {
     static const unsigned width[10] = {5, 5, 4, 4, 4, 4, 4, 3, 3, 3};
+    f->rate = rate_bits(s, &bit, rate);
     *next = bit + head(s, bit, f);
     if (*next > 8 * s.length)
         return false;
@@ -68,5 +78,49 @@ int walk(struct bytes image, size_t address, struct walk *answer)
         frames++;
     } while (f.kind != STOP);
     *answer = (struct walk){bit - 8 * address, frames, 8ull * frames, 200ull * frames};
+    return TAKEN;
+}
+
+/* ---- at a frame rate */
+
+bool rate_valid(struct rate rate)
+{
+    return rate.v <= 1 && rate.rr <= 3;
+}
+
+/* The first interval of a frame with these rate bits: those before it are skipped. */
+unsigned first_interval(struct rate rate, unsigned bits)
+{
+    return 2 * (rate.v ? bits : rate.rr);
+}
+
+int rate_fault(struct bytes image, size_t address, struct rate rate)
+{
+    if (!image_valid(image))
+        return IMAGE;
+    if (!rate_valid(rate))
+        return STATE;
+    return address >= image.length ? BEYOND : TAKEN;
+}
+
+int walk_rated(struct bytes image, size_t address, struct rate rate, struct walk *answer)
+{
+    *answer = (struct walk){0};
+    int fault = rate_fault(image, address, rate);
+    if (fault)
+        return fault;
+    size_t bit = 8 * address;
+    uint32_t frames = 0;
+    uint64_t intervals = 0;
+    struct frame f;
+    do {
+        unsigned bits = rate_bits(image, &bit, rate);
+        bit += head(image, bit, &f);
+        if (bit > 8 * image.length)
+            return NO_PHRASE;
+        frames++;
+        intervals += 8 - first_interval(rate, bits);
+    } while (f.kind != STOP);
+    *answer = (struct walk){bit - 8 * address, frames, intervals, 25 * intervals};
     return TAKEN;
 }

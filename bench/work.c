@@ -54,6 +54,11 @@ static void prepare_mixed(void)
     prepare_speech(speech);
 }
 
+static void prepare_rate_zero(void)
+{
+    prepare_speech(speech_rate_zero);
+}
+
 static void speak_by(speak_call *speak, size_t samples)
 {
     while (samples > 0) {
@@ -72,6 +77,28 @@ static void run(const struct version *v, size_t samples)
 static void step(const struct version *v, size_t samples)
 {
     speak_by(v->speak_by_steps, samples);
+}
+
+/* ---- speech from ROM by a TMS5220C, at the rate of a TMS5220: told once, or before each frame */
+
+static void speak_rated(rated_speak_call *speak, uint8_t v, size_t samples)
+{
+    while (samples > 0) {
+        size_t part = samples < PHRASE ? samples : PHRASE;
+        note(speak(image.bytes, image.length, voice, voice_length, 0, v, 0, out, part));
+        note_samples(part);
+        samples -= part;
+    }
+}
+
+static void run_5220c(const struct version *v, size_t samples)
+{
+    speak_rated(v->speak_5220c, 0, samples);
+}
+
+static void run_rate_bits(const struct version *v, size_t samples)
+{
+    speak_rated(v->speak_5220c, 1, samples);
 }
 
 /* ---- external speech: the bytes of the image, and an image of one byte for the calls to take */
@@ -94,28 +121,60 @@ static void prepare_silence(void)
     make_image(&image, IMAGE_LIMIT, all_silence, 0);
 }
 
-static void walk_from(const struct version *v, size_t address)
+static void prepare_any_rate(void)
 {
-    size_t bits;
-    uint32_t frames;
-    uint64_t intervals, samples;
-    note(v->walk(image.bytes, image.length, address, &bits, &frames, &intervals, &samples));
+    make_image(&image, IMAGE_LIMIT, speech_any_rate, 0);
+}
+
+static inline void note_walk(uint8_t refusal, size_t bits, uint32_t frames, uint64_t intervals, uint64_t samples)
+{
+    note(refusal);
     note(bits);
     note(frames);
     note(intervals);
     note(samples);
 }
 
+static void walk_from(const struct version *v, size_t address)
+{
+    size_t bits;
+    uint32_t frames;
+    uint64_t intervals, samples;
+    uint8_t refusal = v->walk(image.bytes, image.length, address, &bits, &frames, &intervals, &samples);
+    note_walk(refusal, bits, frames, intervals, samples);
+}
+
+static void walk_rate_bits_from(const struct version *v, size_t address)
+{
+    size_t bits;
+    uint32_t frames;
+    uint64_t intervals, samples;
+    uint8_t refusal = v->walk_5220c(image.bytes, image.length, address, 1, 0, &bits, &frames, &intervals, &samples);
+    note_walk(refusal, bits, frames, intervals, samples);
+}
+
+typedef void from_call(const struct version *v, size_t address);
+
 /* Walks of so many frames: the whole image as often as it takes, and a part of it, up to a stop that is put there. */
-static void walk(const struct version *v, size_t frames)
+static void walk_by(from_call *from, const struct version *v, size_t frames)
 {
     for (; frames >= image.count; frames -= image.count)
-        walk_from(v, 0);
+        from(v, 0);
     if (frames == 0)
         return;
     unsigned old = put_energy(&image, frames - 1, 15);
-    walk_from(v, 0);
+    from(v, 0);
     put_energy(&image, frames - 1, old);
+}
+
+static void walk(const struct version *v, size_t frames)
+{
+    walk_by(walk_from, v, frames);
+}
+
+static void walk_rate_bits(const struct version *v, size_t frames)
+{
+    walk_by(walk_rate_bits_from, v, frames);
 }
 
 static void prepare_phrases(void)
@@ -146,12 +205,15 @@ const struct workload workloads[] = {
     {"run, voiced", "sample", 10000000, 20000, 120000, prepare_voiced, run},
     {"run, unvoiced", "sample", 10000000, 20000, 120000, prepare_unvoiced, run},
     {"run, mixed", "sample", 10000000, 20000, 120000, prepare_mixed, run},
+    {"run, mixed, 5220C", "sample", 10000000, 20000, 120000, prepare_mixed, run_5220c},
+    {"run, mixed, rate bits", "sample", 10000000, 20000, 120000, prepare_rate_zero, run_rate_bits},
     {"run, voiced, loud", "sample", 10000000, 20000, 120000, prepare_loud, run},
     {"external speech, mixed", "sample", 2000000, 20000, 120000, prepare_mixed, external},
     {"step by step, mixed", "sample", 200000, 2000, 12000, prepare_mixed, step},
     {"walk, silence", "frame", 5000000, 100000, 500000, prepare_silence, walk},
     {"walk, voiced", "frame", 2000000, 10000, 40000, prepare_voiced, walk},
     {"walk, mixed", "frame", 2000000, 10000, 40000, prepare_mixed, walk},
+    {"walk, mixed, rate bits", "frame", 2000000, 10000, 40000, prepare_any_rate, walk_rate_bits},
     {"walk from each address", "walk", 163840, 16384, 32768, prepare_phrases, walk_each},
     {"voice check", "check", 200000, 1000, 3000, prepare_voice, check},
 };
