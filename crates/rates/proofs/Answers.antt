@@ -9,6 +9,7 @@ use Rattle.base.proofs.Faults.{answered, refused-with}
 use Rattle.rom.specs.Bits.{imageLimit, field}
 use Rattle.rom.specs.Frames.{bitCount, numbersOf}
 use Rattle.rom.specs.Phrases.{walkRefused, partOf}
+use Rattle.rom.specs.Prefix.{withPrefix}
 use Rattle.rom.specs.Reader.{frameAt}
 use Rattle.rom.specs.declared.frames.Frame.{Frame}
 use Rattle.rom.specs.declared.frames.MaybeFrame.the-variants.{Some}
@@ -18,10 +19,11 @@ use Rattle.rom.specs.declared.reader.FrameAnswer.the-variants.{Whole, Cut}
 use Rattle.rom.proofs.Checks.{valid-length, bit-beyond}
 use Rattle.rom.proofs.ItemWalk as walk
 use Rattle.rates.specs.Rates.{prefixBits}
-use Rattle.rates.specs.Form.{rateForm}
+use Rattle.rates.specs.Form.{rateForm, readItem}
 use Rattle.rates.specs.Walks.{rateFault, itemsAt, ratedOver, ratedWalkOf, ratedPhraseOf, noRated, ratedAnswer, onlyV, ratedTakenOf}
 use Rattle.rates.specs.declared.rate.FrameRate.{FrameRate}
 use Rattle.rates.specs.declared.walks.RatedTaken.{RatedTaken}
+use Rattle.rates.proofs.Rates.{read-is}
 use Rattle.rates.proofs.Theorems.{rated-accepts, rated-counts}
 
 module _ (P : ℕ) (r : FrameRate) (s : List ℕ) (a : ℕ) where
@@ -60,14 +62,18 @@ module _ (P v : ℕ) (s : List ℕ) (bit : ℕ) {n : ℕ} (e : n ≡ rateFault s
   take-refused a h = refused-with fault-is noRated _ h a
 
   module _ (h : n ≡ 0) {p q : ℕ} {t : FrameAnswer} (ep : p ≡ prefixBits (onlyV v)) (eq : q ≡ field s bit p) (ea : t ≡ frameAt P s (bit + p)) where
-    answer : ratedAnswer p P q t ≡ ratedAnswer (prefixBits (onlyV v)) P (field s bit (prefixBits (onlyV v))) (frameAt P s (bit + prefixBits (onlyV v)))
-    answer = rw (eq, ea, ep)
+    -- what the reader returns
+    abbrev read : FrameAnswer → RatedTaken
+    read t = ratedAnswer (rateForm (onlyV v) P) (withPrefix q t)
+
+    answer : ratedAnswer (rateForm (onlyV v) P) (withPrefix q t) ≡ ratedAnswer (rateForm (onlyV v) P) (readItem (rateForm (onlyV v) P) s bit)
+    answer = ap (ratedAnswer (rateForm (onlyV v) P)) (sym (read-is P (onlyV v) s bit ep eq ea))
 
     pub take-cut : {x : RatedTaken} → x ≡ noRated 10 → t ≡ Cut → x ≡ ratedTakenOf P v s bit
     unfolding ratedTakenOf
-    take-cut b c = answered fault-is noRated _ h (b ∙ ap (ratedAnswer p P q) (sym c) ∙ answer)
+    take-cut b c = answered fault-is noRated _ h (b ∙ ap read (sym c) ∙ answer)
 
     pub take-whole : {f : Frame} {next w : ℕ} → t ≡ Whole f next → w ≡ p + bitCount P f
         → record { refusal = 0; rate = q; frame = Some f; bits = w } ≡ ratedTakenOf P v s bit
     unfolding ratedTakenOf
-    take-whole {f} {next} c b = answered fault-is noRated _ h (rw b (ap (ratedAnswer p P q) (sym c) ∙ answer))
+    take-whole {f} {next} c b = answered fault-is noRated _ h (rw (b, ep) (ap read (sym c) ∙ answer))

@@ -4,7 +4,6 @@ use mathlib.Core.Path.{_≡_, refl, ap, _∙_}
 use mathlib.Core.List.{List, [], _∷_, _++_, map}
 use Prim.Native.Nat.{ℕ, zero, suc, _*_}
 use native.Mathlib.Nat.{add-zero}
-use native.Mathlib.Omega.{arith}
 use lib.ListN.{length}
 use Rattle.base.proofs.Booleans.{either-way}
 use Rattle.rom.specs.Bits.{field, digits}
@@ -19,12 +18,9 @@ use Rattle.rom.specs.declared.reader.FrameAnswer.the-variants.{Whole, Cut}
 use Rattle.rom.proofs.FrameCode.{frames-lawful}
 use Rattle.rom.proofs.ItemLaws.{there-inside, there-read}
 use Rattle.rom.proofs.Prefixed.{prefixed-read}
-use Rattle.rates.specs.Form.{plainForm, KeepsSome, Item, plain, itemCode, readItem}
+use Rattle.rates.specs.Form.{plainForm, Item, plain, itemCode, readItem}
 
 module _ (P : ℕ) where
-  pub plain-keeps : KeepsSome (plainForm P)
-  plain-keeps q = omega arith
-
   -- what the reader returns of a frame that no prefix precedes
   pub plain-read : (s : List ℕ) (at : ℕ) → readItem (plainForm P) s at ≡ withPrefix 0 (frameAt P s at)
   unfolding field

@@ -3,13 +3,14 @@
 use mathlib.Core.Path.{_≡_, refl, ap}
 use mathlib.Core.List.{List, [], _∷_, map}
 use Prim.Native.Nat.{ℕ, _*_}
-use native.Mathlib.Nat.{add-zero, zero-add}
+use native.Mathlib.Nat.{zero-add}
 use native.Mathlib.Omega.{arith}
 use lib.Dec.{eqb, leb}
 use lib.ListN.{length}
 use Rattle.base.proofs.Booleans.{either-way}
-use Rattle.rom.specs.Bits.{field, imageFault}
+use Rattle.rom.specs.Bits.{imageFault}
 use Rattle.rom.specs.Items.{hasStop, sumOf}
+use Rattle.rom.specs.Prefix.{withPrefix}
 use Rattle.rom.specs.Reader.{frameAt, takenOf, frameTakenOf}
 use Rattle.rom.specs.Phrases.{frameCode, framesAt, walkedOver, walkOf, partOf, phraseOf}
 use Rattle.rom.specs.declared.frames.Frame.{Frame}
@@ -22,7 +23,7 @@ use Rattle.rates.specs.Form.{plainForm, plain, itemCode, keptIntervals}
 use Rattle.rates.specs.Walks.{ratedOver, ratedWalkOf, ratedPhraseOf, ratedAnswer, ratedTakenOf}
 use Rattle.rates.specs.Theorems.{RatedPlain}
 use Rattle.rates.specs.declared.walks.RatedTaken.{RatedTaken}
-use Rattle.rates.proofs.Plain.{plain-bits, plain-from}
+use Rattle.rates.proofs.Plain.{plain-read, plain-bits, plain-from}
 
 -- the numbers of a frame taken without its rate
 abbrev unrated : RatedTaken → FrameTaken
@@ -45,7 +46,7 @@ module _ (P : ℕ) where
   plain-over : (fs : List Frame) → ratedOver (plainForm P) (map plain fs) ≡ walkedOver P fs
   plain-over fs = rw (plain-stops fs, plain-bits P fs, plain-length fs, plain-kept fs)
 
-  plain-answer : (t : FrameAnswer) → unrated (ratedAnswer 0 P 0 t) ≡ takenOf P t
+  plain-answer : (t : FrameAnswer) → unrated (ratedAnswer (plainForm P) (withPrefix 0 t)) ≡ takenOf P t
   plain-answer (Whole f next) = rw zero-add
   plain-answer Cut = refl
 
@@ -59,17 +60,17 @@ module _ (P : ℕ) where
     plain-phrase = ap (λ (w : Walked). partOf s a (w .refusal) (w .bits)) plain-walk
 
     plain-taken : unrated (ratedTakenOf P 0 s a) ≡ frameTakenOf P s a
-    unfolding ratedTakenOf frameTakenOf field
+    unfolding ratedTakenOf frameTakenOf
     plain-taken =
-        rw add-zero
+        rw (plain-read P s a)
         (either-way (eqb (imageFault s (leb (8 * length s) a)) 0) (λ e. rw e (plain-answer (frameAt P s a))) (λ e. rw e))
 
     no-rate : ratedTakenOf P 0 s a .rate ≡ 0
-    unfolding ratedTakenOf field
+    unfolding ratedTakenOf
     no-rate =
-        either-way (eqb (imageFault s (leb (8 * length s) a)) 0) (λ e. rw e (rate-of (frameAt P s _))) (λ e. rw e)
+        rw (plain-read P s a) (either-way (eqb (imageFault s (leb (8 * length s) a)) 0) (λ e. rw e (rate-of (frameAt P s a))) (λ e. rw e))
       where
-        rate-of : (t : FrameAnswer) → ratedAnswer 0 P 0 t .rate ≡ 0
+        rate-of : (t : FrameAnswer) → ratedAnswer (plainForm P) (withPrefix 0 t) .rate ≡ 0
         rate-of (Whole f next) = refl
         rate-of Cut = refl
 

@@ -25,6 +25,7 @@ use Rattle.rates.specs.Rates.{prefixBits}
 use Rattle.rates.specs.Form.{rateForm, Item, itemCode, readItem, keptIntervals}
 use Rattle.rates.specs.Walks.{ratedAccepted, ratedOver}
 use Rattle.rates.specs.declared.rate.FrameRate.{FrameRate}
+use Rattle.rates.proofs.Rates.{read-is}
 
 module _ (P : ℕ) (r : FrameRate) (s : List ℕ) (start : ℕ) where
   -- all items from bit `start` on
@@ -50,7 +51,7 @@ module _ (P : ℕ) (r : FrameRate) (s : List ℕ) (start : ℕ) where
 module _ {P : ℕ} (r : FrameRate) {s : List ℕ} {start at k t : ℕ} (h : Come P r s start at k t) {p q : ℕ} {a : FrameAnswer}
     (ep : p ≡ prefixBits r) (eq : q ≡ field s at p) (ea : a ≡ frameAt P s (at + p)) where
   answer : readItem (rateForm r P) s at ≡ withPrefix q a
-  answer = rw (eq, ea, ep)
+  answer = read-is P r s at ep eq ea
 
   pub come-cut : a ≡ Cut → walkRefused NO-PHRASE ≡ ratedOver (rateForm r P) (all P r s start)
   come-cut c =

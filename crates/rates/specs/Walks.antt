@@ -6,16 +6,13 @@ use lib.Dec.{leb}
 use lib.ListN.{length}
 use Rattle.base.specs.Refusals.{TAKEN, BEYOND, IMAGE, STATE, NO-PHRASE, firstFault, unlessFault}
 use Rattle.base.specs.Units.{frames, intervals, samplesOf}
-use Rattle.rom.specs.Bits.{field, imageValid}
+use Rattle.rom.specs.Bits.{imageValid}
 use Rattle.rom.specs.Frames.{bitCount}
-use Rattle.rom.specs.Items.{itemsFrom, hasStop, bitsAll, sumOf}
-use Rattle.rom.specs.Reader.{frameAt}
+use Rattle.rom.specs.Items.{ItemAnswer, whole, cut, itemsFrom, hasStop, bitsAll, sumOf}
 use Rattle.rom.specs.Phrases.{walkRefused, partOf}
 use Rattle.rom.specs.declared.frames.MaybeFrame.the-variants.{Some, None}
 use Rattle.rom.specs.declared.phrases.Walked.{Walked}
-use Rattle.rom.specs.declared.reader.FrameAnswer.{FrameAnswer}
-use Rattle.rom.specs.declared.reader.FrameAnswer.the-variants.{Whole, Cut}
-use Rattle.rates.specs.Rates.{rateValid, prefixBits}
+use Rattle.rates.specs.Rates.{rateValid}
 use Rattle.rates.specs.Form.{Form, rateForm, Item, itemCode, readItem, keptIntervals}
 use Rattle.rates.specs.declared.rate.FrameRate.{FrameRate}
 use Rattle.rates.specs.declared.walks.RatedTaken.{RatedTaken}
@@ -56,10 +53,10 @@ ratedPhraseOf P r s a = let w = ratedWalkOf P r s a in partOf s a (w .refusal) (
 abbrev pub noRated : ℕ → RatedTaken
 noRated n = record { refusal = n; rate = 0; frame = None; bits = 0 }
 
--- the frame answer after the Q rate bits q: 0 with the rate, the frame and the bits of both, or 10
-abbrev pub ratedAnswer : ℕ → ℕ → ℕ → FrameAnswer → RatedTaken
-ratedAnswer Q P q (Whole f next) = record { refusal = TAKEN; rate = q; frame = Some f; bits = Q + bitCount P f }
-ratedAnswer Q P q Cut = noRated NO-PHRASE
+-- by what the reader returns: 0 with the rate, the frame and the bits of both, or 10
+abbrev pub ratedAnswer : Form → ItemAnswer Item → RatedTaken
+ratedAnswer F (whole (q, f) next) = record { refusal = TAKEN; rate = q; frame = Some f; bits = F .prefix + bitCount (F .pitch) f }
+ratedAnswer F cut = noRated NO-PHRASE
 
 -- v by itself, as a rate
 abbrev pub onlyV : ℕ → FrameRate
@@ -68,5 +65,5 @@ onlyV v = record { v = v; rr = 0 }
 -- the frame taken at a bit, told v
 unfoldable pub ratedTakenOf : ℕ → ℕ → List ℕ → ℕ → RatedTaken
 ratedTakenOf P v s bit =
-    let Q = prefixBits (onlyV v) in
-    unlessFault (rateFault s (onlyV v) (leb (8 * length s) bit)) noRated (ratedAnswer Q P (field s bit Q) (frameAt P s (bit + Q)))
+    let F = rateForm (onlyV v) P in
+    unlessFault (rateFault s (onlyV v) (leb (8 * length s) bit)) noRated (ratedAnswer F (readItem F s bit))

@@ -11,6 +11,7 @@ use Rattle.base.specs.declared.units.Intervals.{Intervals}
 use Rattle.rom.specs.Bits.{field}
 use Rattle.rom.specs.Frames.{isStop}
 use Rattle.rom.specs.Items.{whole, cut}
+use Rattle.rom.specs.Prefix.{withPrefix}
 use Rattle.rom.specs.Reader.{frameAt}
 use Rattle.rom.specs.declared.frames.Frame.{Frame}
 use Rattle.rom.specs.declared.reader.FrameAnswer.{FrameAnswer}
@@ -22,6 +23,7 @@ use Rattle.reports.specs.declared.Details.{Details}
 use Rattle.rates.specs.Rates.{prefixBits, skippedWith}
 use Rattle.rates.specs.Form.{Item, readItem}
 use Rattle.rates.specs.declared.rate.FrameRate.{FrameRate}
+use Rattle.rates.proofs.Rates.{read-is}
 use Rattle.control.specs.Device.{rateOf}
 use Rattle.control.specs.State.{withClock}
 use Rattle.control.specs.Validity.{fifoValid, controlValid}
@@ -45,11 +47,14 @@ module _ (k : Control) (q : ℕ) (f : Frame) (p : ℕ) (held : Fifo) {d : Contro
 -- what the reader of items returns, from what its calls give
 module _ (P : ℕ) (k : Control) (s : List ℕ) (at : ℕ) {r : FrameRate} {Q q : ℕ} {x : FrameAnswer}
     (d : r ≡ rateOf (k .device)) (e : Q ≡ prefixBits r) (b : q ≡ field s at Q) (a : x ≡ frameAt P s (at + Q)) where
+  answer : withPrefix q x ≡ readItem (formOf P k) s at
+  answer = sym (read-is P (rateOf (k .device)) s at (e ∙ ap prefixBits d) b a)
+
   pub item-whole : {f : Frame} {next : ℕ} → x ≡ Whole f next → whole (q, f) next ≡ readItem (formOf P k) s at
-  item-whole w = sym (rw (← d, ← e, ← b, ← a, w))
+  item-whole w = ap (withPrefix q) (sym w) ∙ answer
 
   pub item-cut : x ≡ Cut → cut ≡ readItem (formOf P k) s at
-  item-cut w = sym (rw (← d, ← e, ← b, ← a, w))
+  item-cut w = ap (withPrefix q) (sym w) ∙ answer
 
 module _ (P : ℕ) (image : List ℕ) (k : Control) where
   pub rom-whole : {r : Moved} {i : Item} {next : ℕ} → whole i next ≡ readItem (formOf P k) image (k .address .position)

@@ -70,7 +70,7 @@ heldBytes k = take (k .fifo .level) (k .fifo .bytes)
 abbrev pub rested : Control → Moved
 rested k = record { control = withClock (stopped (k .clock)) k; action = Rest; report = NoReport; details = noDetails }
 
--- at a frame boundary
+-- at a frame boundary: in ROM and external speech the rate bits, where there are any, and the frame after them
 abbrev pub boundaryIn : ℕ → Mode → List ℕ → Control → Moved
 boundaryIn P Idle image k = rested k
 boundaryIn P Rom image k = fromRom image k (readItem (formOf P k) image (k .address .position))

@@ -18,7 +18,7 @@ small : (c : tie.After-prefix-bits)
     (c .prefix-bits .result ≤ 2) × ((a .bit / 8 < length (a .image .now)) × (length (a .image .now) ≤ imageLimit))
 small c =
     let a = c .before .before .before .before .args in (
-      rw (c .prefix-bits .ensures) (prefix-few (onlyV (a .v))),
+      prefix-few (onlyV (a .v)) (c .prefix-bits .ensures),
       in-image (a .image .now) (onlyV (a .v)) (a .bit / 8) (c .before .before .rate-fault .ensures) (c .before .if1 .left),
     )
 

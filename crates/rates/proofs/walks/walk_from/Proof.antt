@@ -19,7 +19,7 @@ abbrev μ-loop : tie.MeasureT-loop
 
 -- the prefix has at most two bits, and the loop stands in the image
 small : (c : tie.At-loop Inv-loop μ-loop) → (c .before .prefix-bits .result ≤ 2) × (c .loop .at ≤ 8 * length (c .before .before .before .args .image .now))
-small c = (rw (c .loop .inv .0 .0) (prefix-few (c .before .before .before .args .rate)), c .loop .inv .1 .inside)
+small c = (prefix-few (c .before .before .before .args .rate) (c .loop .inv .0 .0), c .loop .inv .1 .inside)
 
 -- what the reader returned
 answered : (c : tie.After-frame-in Inv-loop μ-loop)

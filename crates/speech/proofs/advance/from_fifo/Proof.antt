@@ -1,7 +1,6 @@
 -- `speech::advance::from_fifo` meets its contract. Assumes nothing.
 use borrow.Author.Needs.{needs}
 use mathlib.Core.Path.{_≡_, sym}
-use Prim.Native.Nat.{_≤_}
 use native.Mathlib.Omega.{arith}
 use lib.ListN.{length}
 use lib.Seq.{length-take-le}
@@ -19,10 +18,6 @@ array s = search needs
 lent : (s : tie.Start) → length (heldBytes (s .args .control)) ≡ s .args .control .fifo .level
 lent s = length-take-le (s .args .control .fifo .level) (s .args .control .fifo .bytes) (omega (arith, array s, s .pre))
 
--- the width of the rate bits
-few : (p : tie.After-prefix-bits) → p .prefix-bits .result ≤ 2
-few p = rw (p .prefix-bits .ensures) (prefix-few (p .before .rate .result))
-
 abbrev start : tie.After-prefix-bits → tie.Start
 start p = p .before .before .before .before .before .before
 
@@ -38,11 +33,11 @@ from-fifo-spec =
     tie.close (tie.spec (λ c. search needs) (λ c. search needs) (λ c κs. search needs) (λ c κs. search needs)
     (λ c. let s = c .before .before .before .before .before .before in omega (arith, array s, s .pre))
     (λ c. sym (lent (c .before .before .before .before .before .before .before)))
-    (λ c κs. let p = c .before in let s = start p in omega (arith, few p, lent s, s .pre))
+    (λ c κs. let p = c .before in let s = start p in omega (arith, prefix-few (p .before .rate .result) (p .prefix-bits .ensures), lent s, s .pre))
     (λ c. let s = c .before .before .before .before .before .before .before .before in omega (arith, array s, s .pre))
     (λ c. sym (lent (c .before .before .before .before .before .before .before .before .before)))
-    (λ c. let p = c .before .before .before in let s = start p in omega (arith, few p, s .pre))
-    (λ c κs. let p = c .before .before .before in let s = start p in omega (arith, few p, lent s, s .pre))
+    (λ c. let p = c .before .before .before in let s = start p in omega (arith, prefix-few (p .before .rate .result) (p .prefix-bits .ensures), s .pre))
+    (λ c κs. let p = c .before .before .before in let s = start p in omega (arith, prefix-few (p .before .rate .result) (p .prefix-bits .ensures), lent s, s .pre))
     (λ c. search needs) (λ c. search needs) (λ c κs. search needs) (λ c κs. search needs)
     (λ c.
     let f = c .before .before .before .before in

@@ -1,22 +1,17 @@
 -- `speech::advance::from_rom` meets its contract. Assumes nothing.
 use borrow.Author.Needs.{needs}
-use Prim.Native.Nat.{_≤_}
 use native.Mathlib.Omega.{arith}
 use Rattle.rates.proofs.Rates.{prefix-few}
 use Rattle.speech.proofs.Boundaries.{item-whole, item-cut, rom-whole, rom-cut}
 use Rattle.speech.proofs.advance.from_rom.Statement.{statement}
 use Rattle.speech.proofs.advance.from_rom.Tie as tie
 
--- the width of the rate bits
-few : (p : tie.After-prefix-bits) → p .prefix-bits .result ≤ 2
-few p = rw (p .prefix-bits .ensures) (prefix-few (p .before .rate .result))
-
 pub from-rom-spec : {M : Type 1} → statement M
 from-rom-spec =
     tie.close (tie.spec (λ c κs. search needs) (λ c κs. search needs)
-    (λ c κs. omega (arith, few c, c .before .before .before .before .pre))
-    (λ c. omega (arith, few (c .before), c .before .before .before .before .before .pre))
-    (λ c κs. omega (arith, few (c .before), c .before .before .before .before .before .pre))
+    (λ c κs. omega (arith, prefix-few (c .before .rate .result) (c .prefix-bits .ensures), c .before .before .before .before .pre))
+    (λ c. omega (arith, prefix-few (c .before .before .rate .result) (c .before .prefix-bits .ensures), c .before .before .before .before .before .pre))
+    (λ c κs. omega (arith, prefix-few (c .before .before .rate .result) (c .before .prefix-bits .ensures), c .before .before .before .before .before .pre))
     (λ c. search needs) (λ c. search needs) (λ c. search needs)
     (λ c κs. search needs)
     (λ c.
