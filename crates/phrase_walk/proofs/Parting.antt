@@ -1,4 +1,5 @@
--- A walk's numbers, the part that goes with them and the struct made of both: what the proofs of `walk_phrase` and `walk_phrase_rated` share. Which walk it is, and what it is told besides an image and an address, is left open: `found` is what it answers.
+-- A walk's numbers, the part that goes with them and the struct made of both: what the proofs of `walk_phrase` and `walk_phrase_rated`
+-- share. Which walk it is, and what it is told besides an image and an address, is left open: `found` is what it answers.
 --     copies       a `&[u8]` is Copy: of what the image owns one copy goes to each callee, and one is kept for the exit
 --     passed       what an image, an address and further parameters own. What a number owns are facts, made anew where they are asked for
 --     Answer       what a callee gives back
