@@ -1,20 +1,22 @@
--- What a written byte, an acknowledge and a read return, by their fault, and what a byte without a fault finds.
+-- What a written byte, a look, an acknowledge and a read return, by their fault, and what a byte without a fault finds.
 -- Assumes nothing.
 use mathlib.Core.Path.{_≡_, refl}
 use mathlib.Core.Bool.{Bool, true, false, not}
 use mathlib.Core.List.{List, [], _∷_}
 use Prim.Native.Nat.{ℕ}
-use borrow.Author.Tests.{not-false, eq-eqb, ne-eqb}
+use borrow.Author.Tests.{not-false}
 use Rattle.base.specs.Refusals.{WAIT, BEYOND, IMAGE, STATE}
-use Rattle.base.proofs.Faults.{First, first-is, answered, refused-with, none-applies}
+use Rattle.base.proofs.Booleans.{either-way}
+use Rattle.base.proofs.Faults.{First, first-is, answered, refused-with, none-applies, by-fault}
 use Rattle.rom.specs.Bits.{imageValid}
 use Rattle.control.specs.Commands.{commandOf, waits, beyond}
 use Rattle.bus.specs.Accept.{accepted}
 use Rattle.control.specs.Status.{busByte}
-use Rattle.chip.specs.Types.{Accepted, Command, Chip, Control, Acknowledged}
+use Rattle.chip.specs.Types.{Accepted, Command, Chip, Control, Acknowledged, ByteRead}
 use Rattle.chip.specs.Validity.{valid}
 use Rattle.chip.specs.Write.{commandFault, writeFault, notWritten, afterByte, writeOf}
-use Rattle.chip.specs.Read.{readFault, notAcknowledged, acknowledged, acknowledgeOf, readOf}
+use Rattle.chip.specs.Read.{readFault, notLooked, lookOf, notAcknowledged, acknowledged, acknowledgeOf, readOf}
+use Rattle.chip.specs.Laws.{LookKeeps, ReadSame}
 
 -- ---- a written byte
 
@@ -52,10 +54,18 @@ module _ (image : List ℕ) (c : Chip) (b : ℕ) where
     unfolding writeOf
     write-taken h a d = answered e (notWritten c) _ h (rw (d, a))
 
--- ---- an acknowledge and a read
+-- ---- a look, an acknowledge and a read
 
 module _ (c : Chip) where
   module _ {n : ℕ} (e : n ≡ readFault c) where
+    pub look-refused : (n ≡ 0 → ⊥) → record { chip = c; refusal = n; byte = 0 } ≡ lookOf c
+    unfolding lookOf
+    look-refused h = refused-with e (notLooked c) _ h refl
+
+    pub look-taken : {x : ℕ} → n ≡ 0 → x ≡ busByte (c .control) → record { chip = c; refusal = 0; byte = x } ≡ lookOf c
+    unfolding lookOf
+    look-taken h x = answered e (notLooked c) _ h (rw x)
+
     pub acknowledge-refused : (n ≡ 0 → ⊥) → record { chip = c; refusal = n } ≡ acknowledgeOf c
     unfolding acknowledgeOf
     acknowledge-refused h = refused-with e (notAcknowledged c) _ h refl
@@ -65,11 +75,15 @@ module _ (c : Chip) where
     unfolding acknowledgeOf
     acknowledge-taken h w = answered e (notAcknowledged c) _ h (rw w)
 
-  module _ {a : Acknowledged} (e : a ≡ acknowledgeOf c) where
-    pub read-refused : (a .refusal ≡ 0 → ⊥) → record { chip = a .chip; refusal = a .refusal; byte = 0 } ≡ readOf c
-    unfolding readOf
-    read-refused h = rw (← e, ne-eqb (a .refusal) 0 h)
+  pub read-is : {l : ByteRead} {a : Acknowledged} → l ≡ lookOf c → a ≡ acknowledgeOf (l .chip)
+      → record { chip = a .chip; refusal = a .refusal; byte = l .byte } ≡ readOf c
+  unfolding readOf
+  read-is l a = rw (a, l)
 
-    pub read-taken : {x : ℕ} → a .refusal ≡ 0 → x ≡ busByte (c .control) → record { chip = a .chip; refusal = a .refusal; byte = x } ≡ readOf c
-    unfolding readOf
-    read-taken h w = rw (← e, eq-eqb (a .refusal) 0 h, w)
+pub look-keeps : LookKeeps
+unfolding lookOf
+look-keeps c = by-fault (λ (l : ByteRead). l .chip ≡ c) (readFault c) (notLooked c) _ (λ e. refl) (λ n. refl)
+
+pub read-same : ReadSame
+unfolding readOf lookOf acknowledgeOf
+read-same c = either-way (valid c) (λ v. rw (v, v)) (λ v. rw (v, v))

@@ -30,7 +30,7 @@ use Rattle.chip.specs.Laws.{PowerUpValid, WriteKeepsValid, AcknowledgeKe
 use Rattle.chip.specs.Step.{stepTaken, stepFault, notStepped, stepOf}
 use Rattle.chip.specs.Run.{sampleStep, notRun, runOf}
 use Rattle.chip.proofs.Ranges.{ChipRanges, chip-ranges, in-ranges, at-rest}
-use Rattle.chip.proofs.BusCalls.{Found, found}
+use Rattle.chip.proofs.BusCalls.{Found, found, look-keeps}
 use Rattle.chip.proofs.Stepping.{Passed, passed, no-fault}
 
 pub power-up-valid : PowerUpValid
@@ -78,7 +78,7 @@ acknowledge-keeps-valid c h =
 
 pub read-keeps-valid : ReadKeepsValid
 unfolding readOf
-read-keeps-valid c h = acknowledge-keeps-valid c h
+read-keeps-valid c h = acknowledge-keeps-valid _ (rw look-keeps h)
 
 -- ---- a step
 

@@ -1,15 +1,18 @@
--- What is proved of every operation: the ranges and the kind of the device are kept; and a step's control and report depend on the
--- image and the control alone.
+-- What is proved of every operation: the ranges and the kind of the device are kept; a look changes nothing, and a read is what it was
+-- before it was two; and a step's control and report depend on the image and the control alone.
 use mathlib.Core.Path.{_≡_}
-use mathlib.Core.Bool.{true}
+use mathlib.Core.Bool.{true, cond}
 use mathlib.Core.List.{List}
 use Prim.Native.Nat.{ℕ}
+use lib.Dec.{eqb}
+use Rattle.base.specs.Refusals.{TAKEN}
 use Rattle.control.specs.Device.{SameKind}
+use Rattle.control.specs.Status.{busByte}
 use Rattle.chip.specs.Types.{Chip, Stepped}
 use Rattle.chip.specs.State.{powerUp, powerUp5220C}
 use Rattle.chip.specs.Validity.{valid}
 use Rattle.chip.specs.Write.{writeOf}
-use Rattle.chip.specs.Read.{acknowledgeOf, readOf}
+use Rattle.chip.specs.Read.{lookOf, acknowledgeOf, readOf}
 use Rattle.chip.specs.Step.{stepTaken, stepOf}
 use Rattle.chip.specs.Run.{runOf}
 
@@ -37,6 +40,16 @@ StepKeepsValid = (image voice : List ℕ) (c : Chip) → valid c ≡ true → va
 abbrev pub RunKeepsValid : Type 0
 RunKeepsValid = (image voice : List ℕ) (c : Chip) (n : ℕ) → valid c ≡ true → valid (runOf image voice c n .chip) ≡ true
 
+-- A look hands back the given chip, taken or refused.
+abbrev pub LookKeeps : Type 0
+LookKeeps = (c : Chip) → lookOf c .chip ≡ c
+
+-- A read is what it was before it was two: the acknowledge, with the byte that the bus gets where it is taken.
+abbrev pub ReadSame : Type 0
+ReadSame =
+    (c : Chip) → let a = acknowledgeOf c in
+    readOf c ≡ record { chip = a .chip; refusal = a .refusal; byte = cond (eqb (a .refusal) TAKEN) (busByte (c .control)) 0 }
+
 -- a chip of the same kind
 abbrev pub Alike : Chip → Chip → Type 0
 Alike d c = SameKind (d .control .device) (c .control .device)
@@ -44,6 +57,7 @@ Alike d c = SameKind (d .control .device) (c .control .device)
 -- No operation turns one device into the other, valid or not.
 pub record KindKept (image voice : List ℕ) (c : Chip) : Type 0 where
   pub write : (b : ℕ) → Alike (writeOf image c b .chip) c
+  pub look : Alike (lookOf c .chip) c
   pub acknowledge : Alike (acknowledgeOf c .chip) c
   pub read : Alike (readOf c .chip) c
   pub step : Alike (stepOf image voice c .chip) c

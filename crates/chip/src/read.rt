@@ -1,6 +1,6 @@
-// A byte read: the byte that the bus gets, and the acknowledge.
+// A byte read, and its two halves: the look and the acknowledge.
 ghost use mathlib.Core.Path.{_≡_};
-ghost use Rattle.chip.specs.Read.{readFault, acknowledgeOf, readOf};
+ghost use Rattle.chip.specs.Read.{readFault, lookOf, acknowledgeOf, readOf};
 use crate::state::Chip;
 use base::refusal::STATE;
 use base::refusal::TAKEN;
@@ -11,7 +11,7 @@ pub struct Acknowledged {
     pub refusal: u8,
 }
 
-// What a read returns besides: the byte that the bus gets.
+// What a look or a read returns besides: the byte that the bus gets.
 pub struct ByteRead {
     pub chip: Chip,
     pub refusal: u8,
@@ -26,6 +26,26 @@ impl Chip {
             return STATE;
         }
         TAKEN
+    }
+
+    // Operation: the byte that the bus would get, and the chip as it is: a look swallows no interrupt.
+    pub fn look(self) -> ByteRead
+        ensures { λ r. ⌜ r ≡ lookOf self ⌝ }
+    {
+        let fault = self.read_fault();
+        if fault != TAKEN {
+            return ByteRead {
+                chip: self,
+                refusal: fault,
+                byte: 0,
+            };
+        }
+        let control = self.control;
+        ByteRead {
+            chip: self,
+            refusal: TAKEN,
+            byte: control.bus_byte(),
+        }
     }
 
     // Operation: what a bus read does to the state.
@@ -49,25 +69,18 @@ impl Chip {
         }
     }
 
-    // Operation: a byte read.
+    // Operation: a byte read, which is the look followed by the acknowledge.
     pub fn read(self) -> ByteRead
         ensures { λ r. ⌜ r ≡ readOf self ⌝ }
     {
-        let done = self.acknowledge();
+        let looked = self.look();
+        let seen = looked.chip;
+        let done = seen.acknowledge();
         let chip = done.chip;
-        let refusal = done.refusal;
-        if refusal != TAKEN {
-            return ByteRead {
-                chip,
-                refusal,
-                byte: 0,
-            };
-        }
-        let control = self.control;
         ByteRead {
             chip,
-            refusal,
-            byte: control.bus_byte(),
+            refusal: done.refusal,
+            byte: looked.byte,
         }
     }
 }

@@ -23,7 +23,7 @@ use Rattle.base.proofs.Booleans.{by-test}
 use Rattle.control.specs.Status.{statusOf, acknowledgedPort}
 use Rattle.control.specs.declared.state.Port.{Port}
 use Rattle.control.specs.declared.state.Control.{Control}
-use Rattle.chip.specs.Read.{acknowledged, acknowledgeOf, readOf}
+use Rattle.chip.specs.Read.{lookOf, acknowledged, acknowledgeOf, readOf}
 use Rattle.chip.specs.Step.{stepTaken, stepFault, notStepped, stepOf}
 use Rattle.chip.specs.Run.{sampleStep, notRun, runOf}
 use Rattle.claims.specs.Device.{faultOf, modeOf, talkStatus}
@@ -64,16 +64,16 @@ write-fault image c b i v = rw (i, v)
 
 module _ (c : Chip) (v : valid c ≡ true) where
   pub read-taken : readOf c .refusal ≡ 0
-  unfolding readOf acknowledgeOf
-  read-taken = rw v
+  unfolding readOf lookOf acknowledgeOf
+  read-taken = rw (v, v)
 
   pub read-status : c .control .port .pending ≡ false → readOf c .byte ≡ statusOf (c .control)
-  unfolding readOf acknowledgeOf
+  unfolding readOf lookOf acknowledgeOf
   read-status p = rw (v, p)
 
   pub read-chip : readOf c .chip ≡ record { control = acknowledged (c .control); sound = c .sound }
-  unfolding readOf acknowledgeOf
-  read-chip = rw v
+  unfolding readOf lookOf acknowledgeOf
+  read-chip = rw (v, v)
 
 pub still-none : (p : Port) → p .pending ≡ false → acknowledgedPort p .pending ≡ false
 still-none p e = rw e
