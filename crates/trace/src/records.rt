@@ -116,8 +116,26 @@ fn read(chip: Chip, out: &mut [u8], used: usize) -> Played
     ensures { λ r. ⌜ r .used ≤ length (now (out .entry)) ⌝ }
 {
     let read = chip.read();
-    let p = read_line(out, used, read.refusal, read.byte);
+    let p = read_line(out, used, b'R', read.refusal, read.byte);
     hand_back(read.chip, out, p)
+}
+
+// `L`: a look.
+fn look(chip: Chip, out: &mut [u8], used: usize) -> Played
+    ensures { λ r. ⌜ r .used ≤ length (now (out .entry)) ⌝ }
+{
+    let looked = chip.look();
+    let p = read_line(out, used, b'L', looked.refusal, looked.byte);
+    hand_back(looked.chip, out, p)
+}
+
+// `K`: an acknowledge.
+fn acknowledge(chip: Chip, out: &mut [u8], used: usize) -> Played
+    ensures { λ r. ⌜ r .used ≤ length (now (out .entry)) ⌝ }
+{
+    let done = chip.acknowledge();
+    let p = refusal_line(out, used, b'K', done.refusal);
+    hand_back(done.chip, out, p)
 }
 
 // `T`: a sample step.
@@ -226,6 +244,8 @@ pub fn play(
         b'S' => set(script, body, out, used),
         b'W' => write(script, body, parts, chip, out, used),
         b'R' => read(chip, out, used),
+        b'L' => look(chip, out, used),
+        b'K' => acknowledge(chip, out, used),
         b'T' => step(script, parts, chip, out, used),
         b'U' => run(script, body, parts, chip, out, used),
         b'G' => Played {

@@ -37,7 +37,7 @@ fn image_line(out: &mut [u8], at: usize, size: usize) -> usize
     put(out, p, b'\n')
 }
 
-// `V`, `P`, `Q` and `W`: a letter and a refusal number alone.
+// `V`, `P`, `Q`, `W` and `K`: a letter and a refusal number alone.
 pub fn refusal_line(out: &mut [u8], at: usize, letter: u8, refusal: u8) -> usize
     ensures { λ r. ⌜ r ≤ length (now (out .entry)) ⌝ }
 {
@@ -159,11 +159,11 @@ pub fn told_line(
     }
 }
 
-// `R`: a byte read.
-pub fn read_line(out: &mut [u8], at: usize, refusal: u8, byte: u8) -> usize
+// `R` and `L`: a byte read, and a look.
+pub fn read_line(out: &mut [u8], at: usize, letter: u8, refusal: u8, byte: u8) -> usize
     ensures { λ r. ⌜ r ≤ length (now (out .entry)) ⌝ }
 {
-    let p = head(out, at, b'R', refusal);
+    let p = head(out, at, letter, refusal);
     let p = small(out, p, byte);
     put(out, p, b'\n')
 }

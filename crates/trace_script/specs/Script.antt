@@ -39,12 +39,12 @@ leI64 s i = signed (le32 s i + 4294967296 * le32 s (i + 4))
 abbrev pub partOf : List ℕ → ℕ → ℕ → List ℕ
 partOf s from end = cond (leb from end && leb end (length s)) (take (end - from) (drop from s)) []
 
--- What follows a letter, of which `count` is the first u32: nothing after P, Q, R and T; a byte after W; a u32 after F, A and U,
+-- What follows a letter, of which `count` is the first u32: nothing after P, Q, R, L, K and T; a byte after W; a u32 after F, A and U,
 -- of which U's is at most `runLimit`; v and a u32 after G; v, rr and a u32 after B; a state's i64 after S; a u32 and that many bytes
 -- after I and V. No other letter begins a record.
 unfoldable pub bodyOf : ℕ → ℕ → Body
 bodyOf letter count =
-    cond (eqb letter 80 || eqb letter 81 || eqb letter 82 || eqb letter 84) (Bytes 0)
+    cond (eqb letter 80 || eqb letter 81 || (eqb letter 82 || eqb letter 76 || eqb letter 75 || eqb letter 84)) (Bytes 0)
     (cond (eqb letter 87) (Bytes 1)
     (cond (eqb letter 70 || eqb letter 65 || (eqb letter 85 && leb count runLimit)) (Bytes 4)
     (cond (eqb letter 71) (Bytes 5)
