@@ -18,7 +18,7 @@ for size in 0 1 2 5 10 100 1000 10000 100000 1048575 1048576 1048577 3000000; do
         if [ "$letters" = all ]; then
             head -c "$size" /dev/urandom > "$scratch/script"
         else
-            head -c $((size * 26 + 1000)) /dev/urandom | LC_ALL=C tr -dc 'PQRTW' | head -c "$size" > "$scratch/script"
+            head -c $((size * 26 + 1000)) /dev/urandom | LC_ALL=C tr -dc 'KLPQRTW' | head -c "$size" > "$scratch/script"
         fi
         target/debug/model < "$scratch/script" > "$scratch/debug"
         target/model-rustc < "$scratch/script" > "$scratch/release"

@@ -1,4 +1,5 @@
-//! The chip: its state and ranges, power-up, a byte written, a byte read.
+//! The chip: its state and ranges, power-up, a byte written, a look, an
+//! acknowledge, a byte read.
 
 use crate::frame::{bit_of_byte, field, take_frame, Frame};
 use crate::numbers::*;
@@ -533,7 +534,7 @@ fn load_frame_rate(chip: Chip, byte: i64) -> Chip {
     Chip { v: v_of_byte(byte), rr: rr_of_byte(byte), ..chip }
 }
 
-// ---------------------------------------------------------------- status, a byte read
+// ---------------------------------------------------------------- status, look, acknowledge, a byte read
 
 // 01: "Status: TS 80, [..]; BL 40, [..]; BE 20".
 pub const TS: i64 = 0x80;
@@ -563,33 +564,69 @@ fn buffer_empty(chip: &Chip) -> bool {
     chip.level == 0
 }
 
+pub struct Looked {
+    pub chip: Chip,
+    pub refusal: i64,
+    pub byte: i64,
+}
+
+/// 6: "a look that gives the byte the bus would get and hands back the same
+/// state". The answer is number, byte and chip (D 76).
+pub fn look(chip: Chip) -> Looked {
+    // 6: "Refusals: 4 for each, as before." 01: "zero for each number". (D 36)
+    let refusal = state_refusal(&chip);
+    if refusal != TAKEN {
+        return Looked { chip, refusal, byte: 0 };
+    }
+    Looked { chip, refusal: TAKEN, byte: bus_byte(&chip) }
+}
+
+/// 01: "A read gives the data byte if the last taken write was Read Byte and it
+/// hasn't been read yet, else the status."
+fn bus_byte(chip: &Chip) -> i64 {
+    if chip.pending == 1 {
+        return chip.data;
+    }
+    status(chip)
+}
+
+pub struct Acknowledged {
+    pub chip: Chip,
+    pub refusal: i64,
+}
+
+/// 6: "an acknowledge that does what a bus read does to the state".
+pub fn acknowledge(chip: Chip) -> Acknowledged {
+    // 6: "Refusals: 4 for each, as before." 01: "A refused call returns the
+    // given state".
+    let refusal = state_refusal(&chip);
+    if refusal != TAKEN {
+        return Acknowledged { chip, refusal };
+    }
+    Acknowledged { chip: acknowledged(chip), refusal: TAKEN }
+}
+
+/// What a bus read does to the state.
+fn acknowledged(chip: Chip) -> Chip {
+    // 01: "a data read doesn't [clear the interrupt]." (D 37)
+    if chip.pending == 1 {
+        return drop_data(chip);
+    }
+    // 01: "A status read clears the interrupt".
+    Chip { interrupt: 0, ..chip }
+}
+
 pub struct Read {
     pub chip: Chip,
     pub refusal: i64,
     pub byte: i64,
 }
 
-/// "a byte read": 01, "The module".
+/// "a byte read": 01, "The module". "a read takes state only". (D 36)
+/// 6: "A bus read is then the look followed by the acknowledge." Both refuse
+/// the same states, with the same number.
 pub fn read(chip: Chip) -> Read {
-    // 01: "a read takes state only". (D 36)
-    let refusal = state_refusal(&chip);
-    if refusal != TAKEN {
-        return Read { chip, refusal, byte: 0 };
-    }
-    // 01: "A read gives the data byte if the last taken write was Read Byte
-    // and it hasn't been read yet, else the status."
-    if chip.pending == 1 {
-        return data_read(chip);
-    }
-    status_read(chip)
-}
-
-/// 01: "a data read doesn't [clear the interrupt]." (D 37)
-fn data_read(chip: Chip) -> Read {
-    Read { chip: drop_data(chip), refusal: TAKEN, byte: chip.data }
-}
-
-/// 01: "A status read clears the interrupt".
-fn status_read(chip: Chip) -> Read {
-    Read { chip: Chip { interrupt: 0, ..chip }, refusal: TAKEN, byte: status(&chip) }
+    let looked = look(chip);
+    let acknowledged = acknowledge(looked.chip);
+    Read { chip: acknowledged.chip, refusal: looked.refusal, byte: looked.byte }
 }

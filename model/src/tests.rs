@@ -1,6 +1,6 @@
 //! Tests: document 01's "Numbers to try", sizes at their bounds, each refusal
-//! number, the order of checks, the traps, the TMS5220C, the trace format,
-//! garbage.
+//! number, the order of checks, the traps, the TMS5220C, look and acknowledge,
+//! the trace format, garbage.
 
 use crate::chip::*;
 use crate::frame::*;
@@ -67,7 +67,7 @@ fn external(bytes: &[i64]) -> Chip {
 
 /// The status as a read gives it, without reading.
 fn status_of(chip: Chip) -> i64 {
-    let answer = read(chip);
+    let answer = look(chip);
     assert_eq!(answer.refusal, TAKEN);
     answer.byte
 }
@@ -524,6 +524,10 @@ fn state_ranges() {
         assert_eq!(answer.refusal, refusal, "{what}");
         if refusal != TAKEN {
             assert_eq!((answer.byte, answer.chip), (0, chip));
+            let looked = look(chip);
+            assert_eq!((looked.refusal, looked.byte, looked.chip), (refusal, 0, chip));
+            let acknowledged = acknowledge(chip);
+            assert_eq!((acknowledged.refusal, acknowledged.chip), (refusal, chip));
             let written = write(&[0], chip, 0x70);
             assert_eq!((written.refusal, written.chip), (refusal, chip));
             let stepped = step(&[0], &voice(9), chip);
@@ -1297,6 +1301,98 @@ fn fifo_with_rate_bits() {
     assert_eq!((stepped.report, stepped.frame.rate), (STOPPED, 3));
 }
 
+// ---------------------------------------------------------------- look and acknowledge
+
+/// Looks, each of which hands back the same state, give this byte.
+fn looks(chip: Chip, byte: i64) {
+    for _ in 0..2 {
+        let looked = look(chip);
+        assert_eq!((looked.refusal, looked.byte, looked.chip), (TAKEN, byte, chip));
+    }
+}
+
+fn acknowledges(chip: Chip) -> Chip {
+    let answer = acknowledge(chip);
+    assert_eq!(answer.refusal, TAKEN);
+    answer.chip
+}
+
+#[test]
+fn look_at_data_and_interrupt() {
+    let image = [0b1010_0101, 0b0000_0000];
+    for device in [TMS5220, TMS5220C] {
+        let up = Chip { interrupt: 1, nibble: 3, ..power_up_of(device) };
+        looks(up, 0x60);
+        assert_eq!(acknowledges(up), Chip { interrupt: 0, ..up });
+        // Data first, and the interrupt stays; then the status.
+        let chip = writes(&image, up, &[0x10]);
+        looks(chip, 0b1010_0101);
+        let after = acknowledges(chip);
+        assert_eq!(after, Chip { pending: 0, data: 0, ..chip });
+        assert_eq!(after.interrupt, 1);
+        looks(after, 0x60);
+        assert_eq!(acknowledges(after), Chip { interrupt: 0, ..after });
+        // A byte of 0 is pending too.
+        let chip = writes(&image, after, &[0x10]);
+        assert_eq!((chip.pending, chip.data), (1, 0));
+        looks(chip, 0);
+        assert_eq!(acknowledges(chip), Chip { pending: 0, ..chip });
+        // What is looked at can still be read, once.
+        let answer = read(look(chip).chip);
+        assert_eq!((answer.byte, look(answer.chip).byte), (0, 0x60));
+        // With nothing to clear, nothing changes.
+        assert_eq!(acknowledges(power_up_of(device)), power_up_of(device));
+    }
+}
+
+#[test]
+fn look_while_speaking() {
+    // Nine FF and one step: TS falls, BL and BE rise.
+    let chip = external(&[0xFF; 9]);
+    looks(chip, 0x80);
+    assert_eq!(acknowledges(chip), chip);
+    let chip = taken(&[0], chip).chip;
+    looks(chip, 0x60);
+    assert_eq!(chip.interrupt, 1);
+    // A look between steps does not end it, an acknowledge does.
+    let chip = taken(&[0], look(chip).chip).chip;
+    assert_eq!(chip.interrupt, 1);
+    assert_eq!(taken(&[0], acknowledges(chip)).chip.interrupt, 0);
+    // Each level of the FIFO.
+    for level in 1..=16 {
+        let bl = if level <= 8 { 0x40 } else { 0 };
+        looks(speech(&vec![7; level], 0), 0x80 + bl);
+    }
+    // From ROM.
+    let chip = Chip { interrupt: 1, ..writes(&[0], power_up(), &[0x50]) };
+    looks(chip, 0xE0);
+    assert_eq!(acknowledges(chip), Chip { interrupt: 0, ..chip });
+}
+
+/// Refused, with data and the interrupt there: the state as it was, and 0.
+#[test]
+fn look_refused() {
+    let full = Chip { pending: 1, data: 0xA5, interrupt: 1, ..power_up_of(TMS5220C) };
+    for chip in [
+        Chip { nibble: 5, ..full },
+        Chip { mode: WAITING, ..full },
+        Chip { mode: ROM, sounding: 1, ..full },
+        Chip { pending: 0, ..full },
+        Chip { noise: 1, ..full },
+        Chip { position: 2_097_153, ..full },
+        Chip { v: 2, ..full },
+        Chip { v: 1, rr: 4, ..full },
+        Chip { device: TMS5220, level: 1, ..full },
+    ] {
+        let looked = look(chip);
+        assert_eq!((looked.refusal, looked.byte, looked.chip), (STATE, 0, chip));
+        let answer = acknowledge(chip);
+        assert_eq!((answer.refusal, answer.chip), (STATE, chip));
+        let answer = read(chip);
+        assert_eq!((answer.refusal, answer.byte, answer.chip), (STATE, 0, chip));
+    }
+}
+
 // ---------------------------------------------------------------- laws
 
 /// Refused calls return the given state, taken ones a valid one, and a run is
@@ -1316,6 +1412,10 @@ fn laws_over_valid_states() {
         assert_eq!(state_refusal(&answer.chip), TAKEN);
         let answer = read(chip);
         assert_eq!((answer.refusal, state_refusal(&answer.chip)), (TAKEN, TAKEN));
+        let looked = look(chip);
+        assert_eq!((looked.refusal, looked.byte, looked.chip), (TAKEN, answer.byte, chip));
+        let acknowledged = acknowledge(chip);
+        assert_eq!((acknowledged.refusal, acknowledged.chip), (TAKEN, answer.chip));
         let count = dice.below(30) as usize;
         let mut buffer = vec![9_999; count];
         let ran = run(&image, &file, chip, &mut buffer);
@@ -1406,6 +1506,9 @@ fn trace_answers() {
     assert_eq!(played(b""), "");
     assert_eq!(played(b"P"), format!("P 0\n{}", power_line()));
     assert_eq!(played(b"R"), format!("R 0 96\n{}", power_line()));
+    assert_eq!(played(b"L"), format!("L 0 96\n{}", power_line()));
+    assert_eq!(played(b"K"), format!("K 0\n{}", power_line()));
+    assert_eq!(played(b"QLK"), format!("Q 0\n{0}L 0 96\n{0}K 0\n{0}", power_line_of(TMS5220C)));
     // The empty image and voice at first.
     assert_eq!(played(b"W\x70"), format!("W 3\n{}", power_line()));
     assert_eq!(played(b"T"), format!("T 3 0 0{}\n{}", " 0".repeat(14), power_line()));
@@ -1508,12 +1611,13 @@ fn trace_states() {
             counted(b'I', &[0]),
             counted(b'V', &voice(1)),
             state_record(&numbers),
-            b"W\x70RT".to_vec(),
+            b"W\x70RTLK".to_vec(),
             numbered(b'U', 1),
         ]
         .concat();
         let none = " 0".repeat(14);
-        let expected = format!("I 1\nV 0\n{line}W 4\n{line}R 4 0\n{line}T 4 0 0{none}\n{line}U 4 0\n{line}");
+        let refused = format!("W 4\n{line}R 4 0\n{line}T 4 0 0{none}\n{line}L 4 0\n{line}K 4\n{line}U 4 0\n{line}");
+        let expected = format!("I 1\nV 0\n{line}{refused}");
         assert_eq!(played(&script), expected);
     }
     // The widest numbers.
@@ -1526,7 +1630,7 @@ fn trace_states() {
 
 #[test]
 fn bad_scripts() {
-    for script in [&b"x"[..], b"W", b"I", b"I\x01\0\0", b"I\x01\0\0\0", b"V\xFF\xFF\xFF\xFF", b"F\0\0\0", b"A", b"U\0\0\0", b"G\x01\0\0\0", b"B\x01\x01\0\0\0"] {
+    for script in [&b"x"[..], b"l", b"k", b"W", b"I", b"I\x01\0\0", b"I\x01\0\0\0", b"V\xFF\xFF\xFF\xFF", b"F\0\0\0", b"A", b"U\0\0\0", b"G\x01\0\0\0", b"B\x01\x01\0\0\0"] {
         assert_eq!(played(script), "bad script\n");
     }
     assert_eq!(played(b"U\x01\x20\0\0"), "bad script\n");
@@ -1554,11 +1658,11 @@ fn garbage() {
         played(&dice.bytes(length));
     }
     // Letters more often than by chance.
-    let letters = b"IVFAPSWRTUQGB";
+    let letters = b"IVFAPSWRTUQGBLK";
     for _ in 0..3_000 {
         let mut script = Vec::new();
         for _ in 0..dice.below(60) {
-            let letter = letters[dice.below(13) as usize];
+            let letter = letters[dice.below(15) as usize];
             match letter {
                 b'I' => {
                     let length = dice.below(20) as usize;

@@ -2,7 +2,7 @@
 
 use std::io::{self, Write};
 
-use crate::chip::{power_up, power_up_of, read, write, Chip, Values};
+use crate::chip::{acknowledge, look, power_up, power_up_of, read, write, Chip, Values};
 use crate::frame::Frame;
 use crate::numbers::{TMS5220, TMS5220C};
 use crate::rom::{frame_at, rated_frame_at, rated_walk, walk, Walked};
@@ -111,6 +111,8 @@ impl Player<'_, '_> {
             b'Q' => self.power_c_record(),
             b'G' => self.rated_frame_record(),
             b'B' => self.rated_walk_record(),
+            b'L' => self.look_record(),
+            b'K' => self.acknowledge_record(),
             _ => None,
         }
     }
@@ -195,6 +197,20 @@ impl Player<'_, '_> {
         let answer = read(self.chip);
         self.chip = answer.chip;
         Some(writeln!(self.out, "R {} {}", answer.refusal, answer.byte).and_then(|()| self.chip_line()))
+    }
+
+    /// trace: "`L refusal byte`, then `C`".
+    fn look_record(&mut self) -> Option<io::Result<()>> {
+        let answer = look(self.chip);
+        self.chip = answer.chip;
+        Some(writeln!(self.out, "L {} {}", answer.refusal, answer.byte).and_then(|()| self.chip_line()))
+    }
+
+    /// trace: "`K refusal`, then `C`".
+    fn acknowledge_record(&mut self) -> Option<io::Result<()>> {
+        let answer = acknowledge(self.chip);
+        self.chip = answer.chip;
+        Some(writeln!(self.out, "K {}", answer.refusal).and_then(|()| self.chip_line()))
     }
 
     /// trace: "`T refusal sample report FRAME`, and what is said below, then
