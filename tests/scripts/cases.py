@@ -4,6 +4,7 @@ import states
 import themes
 import voices
 from cases_commands import *
+from cases_looks import LOOK_TOPICS
 from cases_numbers import *
 from cases_rates import RATE_TOPICS
 from cases_rom import *
@@ -14,13 +15,15 @@ from pick import Pick
 from script import *
 
 
-# State ranges: each edge of each range, inside and outside by one, told by a read; every tenth also by the other calls.
+# State ranges: the edges of each range, inside and outside by one, told by a look, which changes nothing, and then by an
+# acknowledge and a read; every fifth also by the other calls.
 def state_edges():
     out = image(b'\x00\xff') + voice(voices.soft(2))
     for at, fields in enumerate(fields for edges in states.EDGES for fields in edges):
-        out += chip(fields) + read()
-        if at % 10 == 0:
-            out += chip(fields) + write(SPEAK) + step() + run(2)
+        out += chip(fields) + look()
+        if at % 5 == 0:
+            out += step() + run(2) + write(SPEAK)
+        out += acknowledge() + read()
     return out
 
 
@@ -28,9 +31,11 @@ def state_edges():
 def voice_faults():
     out = image(b'\x00\xff') + power_up() + write(SPEAK)
     for fault in voices.FAULTS + [voices.two_faults]:
+        # the first is a bad one, and comes last
         files = list(fault(voices.plain(3)))
-        out += b''.join(voice(data) for data in files) + voice(files[0]) + step() + run(0, 2)
-    out += b''.join(voice(data) for data in voices.edge_counts(voices.plain(64)))
+        out += b''.join(voice(data) for data in files[1:] + files[:1]) + step() + run(0, 2)
+    # of the long file 63, 65 and 0 pulses, and its own 64
+    out += b''.join(voice(data) for data in list(voices.edge_counts(voices.plain(64)))[:4])
     # a valid file is taken whatever its pulse bytes are
     return out + voice(voices.plain(3)[:-3] + b'\x80\x7f\xff')
 
@@ -56,7 +61,8 @@ def longest_run():
 TOPICS = [numbers_walks, numbers_addresses, numbers_status, numbers_nine_ff, numbers_nine_00, numbers_seventeenth,
           numbers_voices, order_of_checks, frames_at_bits, walks, loads, restarts, read_bytes, every_command, statuses,
           ninth_byte, fifo_ends, interrupts, external_paces, spoken_kinds, rom_ends, image_changes, boundaries, interpolations,
-          excitations, filters, state_edges, voice_faults, some_of_each_theme, longest_run, numbers_images] + RATE_TOPICS
+          excitations, filters, state_edges, voice_faults, some_of_each_theme, longest_run, numbers_images]
+TOPICS += RATE_TOPICS + LOOK_TOPICS
 
 
 def stored_script():

@@ -3,25 +3,31 @@ import voices
 from chips import KINDS, KS, OTHER_KS, external, fifo, in_mode, silent
 from images import SILENCE, STOP, pack, repeat, unvoiced, voiced
 from script import *
-from states import EXTERNAL, IDLE, ROM, WAITING, held
+from states import FIFO, IDLE, ROM, WAITING, held
 
 
-# Each code in each mode, with both top bits.
+# Each code in each mode, with both top bits. In ROM speech all but the last, Reset, have to wait; in the external modes all go
+# to the FIFO, up to the eighth byte in waiting and to the sixteenth in speech.
 def every_command():
     out = image(bytes(range(60, 100))) + voice(voices.soft(5))
-    for mode in (IDLE, ROM, WAITING, EXTERNAL):
-        for command in COMMANDS:
-            out += in_mode(mode, position=41, nibble=2, interrupt=1) + write(command | (0x82 if command & 0x10 else 0x05))
+    data = [command | (0x82 if command & 0x10 else 0x05) for command in COMMANDS]
+    rest = {'position': 41, 'nibble': 2, 'interrupt': 1}
+    for byte in data:
+        out += in_mode(IDLE, **rest) + write(byte)
+    out += in_mode(ROM, **rest) + write(*data)
+    out += in_mode(WAITING, **{**dict.fromkeys(FIFO, 0), 'level': 0, **rest}) + write(*data)
+    out += external(8, **rest) + write(*data)
     return out + in_mode(IDLE, pending=1, data=9) + write(SPEAK_EXTERNAL) + step() + write(RESET) + read()
 
 
-# The status at each FIFO level, the interrupt before it.
+# The status at each FIFO level up to external speech with 16 bytes, and with fewer in external speech; the interrupt before it.
 def statuses():
-    out = b''
-    for level in range(9):
-        out += silent(mode=WAITING, interrupt=level & 1, **held(level)) + read()
-    for level in range(1, 17):
+    out = image(b'\x00') + silent(mode=WAITING, interrupt=1) + read()
+    for byte in range(1, 17):
+        out += write(byte) + read()
+    for level in (1, 2, 7, 8, 9, 16):
         out += external(level, interrupt=level & 1) + read()
+    out += silent(mode=WAITING, interrupt=1, **held(8)) + read()
     for mode in (IDLE, ROM):
         out += in_mode(mode, interrupt=1) + read(2)
     return out
@@ -55,8 +61,9 @@ def interrupts():
     for data, used in ((silence * 10, 0), (silence * 10, 4), (silence * 9, 0), (silence * 9, 4), (silence * 9, 1),
                        (silence * 8, 4), (whole + silence * 8, 0), (whole + silence * 3, 0), (b'\xff' * 12, 0),
                        (b'\xff' * 3, 7), (silence, 4), (b'\xff', 4), (b'\x0f', 4)):
-        for before in (0, 1):
-            out += fifo(data, used, interrupt=before) + step() + read()
+        out += fifo(data, used) + step() + read()
+    for data, used in ((silence * 10, 0), (silence * 9, 4), (silence, 4), (b'\xff' * 3, 7)):
+        out += fifo(data, used, interrupt=1) + step() + read()
     # a waiting chip and one that is idle keep the interrupt as it was; one that runs out of ROM does not
     for mode in (IDLE, ROM, WAITING):
         out += in_mode(mode, sample=24, interval=7) + step(2)

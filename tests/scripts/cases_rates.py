@@ -242,7 +242,7 @@ def rate_ranges():
     data = pack(with_rates(SPEECH, [1, 3, 0, 2, 3]))
     out = image(data) + voice(voices.soft(2))
     for fields in states.rate_edges():
-        out += chip(fields) + read() + step()
+        out += chip(fields) + look() + acknowledge() + read() + step()
     out += silent(**told(2, 0)) + read() + write(0x00, RESET) + step() + run(0, 2)
     out += silent(**told(1, 4)) + read() + write(0x00, RESET) + step() + run(0, 2)
     # a state may be out of range in several ways; image and voice file come first

@@ -10,7 +10,7 @@ from states import EXTERNAL, IDLE, ROM, WAITING
 def order_of_checks():
     good, bad_voice, voice_file = b'\x05\xff\xff', voices.plain(3)[:-1], voices.plain(3)
     out = voice(voice_file) + image(b'') + in_mode(ROM, nibble=5)
-    out += step() + run(0, 4) + write(SPEAK) + read() + walk(0, 1) + frame_at(0, 1)
+    out += step() + run(0, 4) + write(SPEAK) + look() + acknowledge() + read() + walk(0, 1) + frame_at(0, 1)
     out += voice(bad_voice) + step() + run(0, 2)
     out += image(good) + step() + run(0, 2) + write(SPEAK, RESET, READ_BYTE)
     out += voice(voice_file) + step() + run(0, 2)
@@ -55,18 +55,18 @@ def walks():
 def loads():
     out = image(bytes(range(1, 100)))
     out += power_up() + write(*[load(nibble) for nibble in (0xA, 0xB, 0xC, 0xD, 0xF, 0x5, 0x6)])
+    # each nibble as the first, from inside a byte, and all values at each nibble
     for nibble in range(5):
-        for value in (0x0, 0x3, 0xC, 0xF):
-            out += silent(position=8 * 0x2A5A5 + 3, nibble=nibble, interrupt=1) + write(load(value) + 0x80 * (value & 1))
+        out += silent(position=8 * 0x2A5A5 + 3, nibble=nibble, interrupt=1)
+        out += write(*[load(value) + 0x80 * (value & 1) for value in (0xF, 0x0, 0x3, 0xC, 0x5)])
     return out
 
 
 # What restarts the nibble and what does not, and what ends pending data.
 def restarts():
     out = image(bytes([0x12, 0x34, 0x56, 0x78, 0xFF] * 4))
-    for command in COMMANDS:
-        for top in (0, 0x80):
-            out += silent(position=19, nibble=3, interrupt=1, pending=top >> 7, data=top) + write(command + top + 9) + read(2)
+    for at, command in enumerate(COMMANDS):
+        out += silent(position=19, nibble=3, interrupt=1, pending=1, data=128) + write(command + 0x80 * (at & 1) + 9) + read(2)
     return out
 
 
@@ -75,12 +75,13 @@ def read_bytes():
     out = image(bytes([0x9C, 0x35, 0xE1, 0x7A]))
     for position in range(8):
         out += silent(position=position, interrupt=position & 1) + write(READ_BYTE) + read(2)
-    for position in (23, 24, 25, 31, 32, 33):
+    for position in (23, 24):
         out += silent(position=position, pending=1, data=0x77) + write(READ_BYTE, READ_BYTE) + read(2)
     # position 24 is the first of the last byte; a second byte for the branch is missing there
-    for position in (0, 5, 16, 23, 24, 31, 32, 40):
+    for position in (0, 5, 16, 23, 24):
         out += silent(position=position, nibble=2, pending=1, data=1) + write(READ_AND_BRANCH) + read()
-    # Speak needs one bit
-    for position in (30, 31, 32, 33):
-        out += silent(position=position, nibble=2, interrupt=1) + write(SPEAK) + read() + write(RESET)
+    # no eight bits left, and no two bytes; Speak needs one bit
+    for position in (25, 31, 32, 33, 40):
+        out += silent(position=position, nibble=2, interrupt=1, pending=1, data=0x77) + write(READ_BYTE, READ_AND_BRANCH)
+        out += write(SPEAK) + read() + write(RESET)
     return out

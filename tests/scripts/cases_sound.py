@@ -60,7 +60,7 @@ def interpolations():
     out = image(b'\x00') + voice(voices.soft())
     current = {**dict.fromkeys(CURRENT[:2], 500), **{name: 20 * i - 100 for i, name in enumerate(CURRENT[2:])}}
     for interval in range(8):
-        for far in (1, 5, 9):
+        for far in (1, 6):
             target = {name: current[name] + (far + max(i - 2, 0)) * (-1) ** i for i, name in enumerate(CURRENT)}
             # interval 0 takes a frame, a silence, whose energy target is 0
             mode = IDLE if interval else ROM
@@ -77,14 +77,16 @@ def interpolations():
 def excitations():
     out = image(b'\x00') + voice(voices.plain(40))
     flat = dict.fromkeys(CURRENT[2:] + TARGET[2:] + MEMORY, 0)
-    for place, pitch in ((0, 0), (0, 1), (0, 2), (1, 2), (38, 100), (39, 100), (40, 100), (98, 100), (99, 100), (100, 100),
-                         (101, 100), (1021, 1023), (1022, 1023), (1022, 0)):
+    # so many steps from each place: up to the table's end and past it, up to the pitch and to 0
+    for place, pitch, steps in ((0, 0, 1), (0, 1, 1), (0, 2, 3), (38, 100, 3), (98, 100, 3), (101, 100, 1), (1021, 1023, 3),
+                                (1022, 0, 1)):
         for target in (0, 50):
             fields = {'place': place, 'current pitch': pitch, 'target pitch': target, 'current energy': 1000}
-            out += in_mode(IDLE, **flat, **fields) + step()
-    for noise in (1, 2, 4, 5, 8, 9, 12, 13, 16, 4096, 4097, 4100, 4104, 4109, 2048, 8190, 8191):
+            out += in_mode(IDLE, **flat, **fields) + step(steps)
+    # 2, 4, 9, 18; 2048, 4096, 1, 3; two and three taps; 8191, 8190, 8189, 8186
+    for noise, steps in ((2, 4), (2048, 4), (8, 2), (5, 1), (13, 1), (4104, 1), (4109, 1), (8191, 4)):
         fields = {'noise': noise, 'target pitch': 0, 'current energy': 3 * (noise % 50) + 1}
-        out += in_mode(IDLE, **flat, **fields) + step()
+        out += in_mode(IDLE, **flat, **fields) + step(steps)
     return out
 
 
@@ -93,7 +95,7 @@ def filters():
     out = image(b'\x00') + voice(voices.plain(40))
     quiet = dict.fromkeys(CURRENT + TARGET + MEMORY, 0)
     for stage in range(10):
-        for k, memory in ((511, -1), (-512, 8191), (3, 170)):
+        for k, memory in ((511, -1), (-512, 8191), (3, 170))[:3 if stage in (0, 9) else 2]:
             fields = {CURRENT[2 + stage]: k, MEMORY[stage]: memory, 'current energy': 77}
             out += in_mode(IDLE, **{**quiet, **fields}) + step(2)
     # every memory and every K at a bound
@@ -103,10 +105,8 @@ def filters():
             out += in_mode(IDLE, **{'current energy': 1023}, **fields) + step(3)
     # samples at and past 511 and -512: with K 0 the sample is the input
     for energy in (510, 511, 512, 513, 514):
-        for noise in (1, 2):
-            out += in_mode(IDLE, **{**quiet, 'current energy': energy, 'noise': noise}) + step(2)
+        # even, even, odd: up, up, down
+        out += in_mode(IDLE, **{**quiet, 'current energy': energy, 'noise': 2}) + step(3)
     # the input's floor: pulses of both signs, energies that 64 does not divide
-    for place in range(6):
-        fields = {'target pitch': 60, 'current pitch': 60, 'current energy': 333, 'place': place}
-        out += in_mode(IDLE, **{**quiet, **fields}) + step()
-    return out
+    fields = {'target pitch': 60, 'current pitch': 60, 'current energy': 333, 'place': 0}
+    return out + in_mode(IDLE, **{**quiet, **fields}) + step(6)

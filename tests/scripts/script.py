@@ -42,6 +42,16 @@ def rated_walk(v, rr, *addresses):
     return b''.join(b'B' + struct.pack('<BBI', v, rr, address) for address in addresses)
 
 
+# look and acknowledge, on either device
+
+def look(count=1):
+    return b'L' * count
+
+
+def acknowledge(count=1):
+    return b'K' * count
+
+
 def state(numbers):
     assert len(numbers) == CHIP_NUMBERS
     return b'S' + b''.join(struct.pack('<q', number) for number in numbers)
@@ -86,10 +96,11 @@ def load_address(address):
 # ---- taking a script apart
 
 # the letters whose answer has a second line, the chip
-WITH_CHIP = b'PQWRTU'
+WITH_CHIP = b'PQWRTULK'
 # the letters that call an operation of the library
-CALLS = b'VFAPQGBWRTU'
-FIXED = {b'F': 4, b'A': 4, b'P': 0, b'S': 8 * CHIP_NUMBERS, b'W': 1, b'R': 0, b'T': 0, b'U': 4, b'Q': 0, b'G': 5, b'B': 6}
+CALLS = b'VFAPQGBWRTULK'
+FIXED = {b'F': 4, b'A': 4, b'P': 0, b'S': 8 * CHIP_NUMBERS, b'W': 1, b'R': 0, b'T': 0, b'U': 4, b'Q': 0, b'G': 5, b'B': 6,
+         b'L': 0, b'K': 0}
 
 
 def records(script):

@@ -373,8 +373,82 @@ def long_rated_runs(pick):
 
 OF_RATES = [themes_of_01, rated_phrases, rated_rom_speech, rated_external_speech, rate_commands, rate_states, told_rates,
             long_rated_runs]
-# half of the themes of a random script are of each list; themes_of_01 comes oftener, as it stands for many
-ALL = OF_01 + OF_RATES + [themes_of_01] * (len(OF_01) - len(OF_RATES))
+
+
+# ---- look and acknowledge
+
+def any_looks(pick, most):
+    """A few looks, acknowledges and reads."""
+    return b''.join(pick.one_of([look(), look(), acknowledge(), read()]) for _ in range(pick.between(1, most)))
+
+
+def with_looks(pick, script):
+    """The same records with looks and acknowledges behind them, most often behind a state, and look and acknowledge for a
+    read; or with looks alone, which change nothing."""
+    acknowledges = pick.chance(70)
+    often = pick.one_of([10, 30, 60])
+    out = b''
+    for start, end, letter, _ in records(script):
+        out += look() + acknowledge() if letter == b'R' and pick.chance(30) else script[start:end]
+        if pick.chance(80 if letter == b'S' else often):
+            out += pick.one_of([look(), look(), acknowledge(), look() + acknowledge()]) if acknowledges else look()
+    return out
+
+
+# Any of the themes above, looked at.
+def looks_in_themes(pick):
+    return with_looks(pick, pick.one_of(OF_01 + OF_RATES)(pick))
+
+
+# States of both devices, valid and damaged, with and without data and the interrupt, whatever image and voice file there are.
+def looks_at_states(pick):
+    out = pick.one_of([b'', image(b''), good_image(pick)])
+    for _ in range(pick.between(1, 4)):
+        fields = states.any_broken(pick) if pick.chance(50) else states.any_valid(pick, (0, 300))
+        # outside idle this is out of range
+        if pick.chance(30):
+            fields.update({'pending': 1, 'data': pick.edge(0, 255), 'interrupt': 1})
+        if pick.chance(50):
+            fields.update(states.any_broken_rates(pick) if pick.chance(25) else states.any_rates(pick))
+        out += state_of(fields) + any_looks(pick, 6)
+    return out
+
+
+# Read Byte and other commands, looks between them and before the read.
+def looks_at_data(pick):
+    out = good_image(pick) + pick.one_of([power_up(), power_up_c()])
+    for _ in range(pick.between(4, 20)):
+        byte = pick.one_of([READ_BYTE, READ_BYTE, READ_BYTE, load(pick.below(16)), READ_AND_BRANCH, NOTHING, pick.below(256)])
+        out += write(byte + 128 * pick.below(2) & 255) + (any_looks(pick, 3) if pick.chance(70) else b'')
+    return out
+
+
+# External speech before a frame that makes BL or BE rise or TS fall.
+def looks_at_interrupts(pick):
+    out = good_image(pick) + good_voice(pick)
+    for _ in range(pick.between(1, 3)):
+        level = pick.one_of([1, 2, 8, 9, 9, 10, 16])
+        data = {states.FIFO[i]: pick.one_of([0, 255, pick.below(256)]) if i < level else 0 for i in range(states.FIFO_BYTES)}
+        place = {'level': level, 'used': pick.below(8), 'sample': 0, 'interval': 0, 'interrupt': pick.below(2)}
+        fields = states.in_mode(states.EXTERNAL, **data, **place)
+        if pick.chance(50):
+            fields.update(states.any_rates(pick))
+        out += state_of(fields)
+        for _ in range(pick.between(1, 4)):
+            out += any_looks(pick, 2) + pick.one_of([step(), step(), run(200), run(pick.below(60)), write(pick.below(256))])
+    return out + any_looks(pick, 2)
+
+
+OF_LOOKS = [looks_in_themes, looks_at_states, looks_at_data, looks_at_interrupts]
+
+
+def weighed(of, often):
+    """A list of themes of the length of the first one; the theme that stands for many comes oftener."""
+    return of + [often] * (len(OF_01) - len(of))
+
+
+# a third of the themes of a random script are of each list
+ALL = OF_01 + weighed(OF_RATES, themes_of_01) + weighed(OF_LOOKS, looks_in_themes)
 
 
 def any_script(pick, size):
@@ -382,13 +456,15 @@ def any_script(pick, size):
     out = largest_images(pick) if pick.chance(4) else b''
     if pick.chance(50):
         out = on_tms5220c(pick, out)
+    if pick.chance(50):
+        out = with_looks(pick, out)
     size += len(out)
     while len(out) < size:
         out += pick.one_of(ALL)(pick)
     if pick.chance(10):
         too_long, cut = [run(LONGEST_RUN + 1), run(2 ** 32 - 1)], [image(b'\xff')[:3], voice(bytes(9))[:-1]]
         cut += [rated_frame_at(1, 0)[:-1], rated_walk(1, 2, 0)[:-1]]
-        out += pick.one_of([b'x', b'\0', b'i', b'q'] + too_long + cut) + step()
+        out += pick.one_of([b'x', b'\0', b'i', b'q', b'l', b'k'] + too_long + cut) + step()
     if pick.chance(10):
         out = out[:pick.below(len(out) + 1)]
     return out[:MOST_SCRIPT_BYTES]

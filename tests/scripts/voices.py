@@ -77,15 +77,22 @@ def bad_versions(data):
 
 
 def edge_values(data):
-    """VOICE VALUE: each table's ends, inside and outside by one, at its first, second and last place."""
+    """VOICE VALUE: outside each table's ends by one, at its first, second and last place; then all low ends in one file, and
+    all high ends."""
     tables = (ENERGY, ENERGIES - 1, 0, 1023), (PITCH, PITCHES - 1, 1, 1023), (K, K_VALUES - 1, -512, 511)
     for table, last, low, high in tables:
         for index in (0, 1, last):
-            for value in (low - 1, low, high, high + 1):
+            for value in (low - 1, high + 1):
                 yield with_value(data, table, index, value)
+    for end in (2, 3):
+        whole = with_value(data, K, 0, tables[2][end])
+        for table in tables:
+            for index in (1, table[1]):
+                whole = with_value(whole, table[0], index, table[end])
+        yield whole
     # the first energy and the first pitch are 0, not just small
     yield with_value(data, ENERGY, 0, 1)
-    yield with_value(data, PITCH, 0, 0)
+    yield with_value(data, PITCH, 0, 1)
     yield with_value(data, PITCH, 1, 32768)
     yield with_value(data, K, 0, 32768)
     yield with_value(data, K, 0, 32767)
