@@ -7,7 +7,7 @@ use Rattle.base.proofs.Faults.{by-fault}
 use Rattle.base.proofs.Steps.{after-keeps}
 use Rattle.control.specs.Device.{atPowerUp}
 use Rattle.bus.proofs.Kept.{kind-kept}
-use Rattle.chip.specs.Types.{Device, Chip, Written, Acknowledged, Stepped, Ran}
+use Rattle.chip.specs.Types.{Chip, Written, Acknowledged, Stepped, Ran}
 use Rattle.chip.specs.Write.{writeFault, notWritten, writeOf}
 use Rattle.chip.specs.Read.{readFault, lookOf, notAcknowledged, acknowledgeOf, readOf}
 use Rattle.chip.specs.Step.{stepTaken, stepFault, notStepped, stepOf}
