@@ -4,6 +4,7 @@ ghost use lib.ListN.{length};
 ghost use Rattle.trace_script.specs.Script.{limit};
 use base::bytes::byte_at;
 use base::refusal::TAKEN;
+use chip::read::ByteRead;
 use chip::state::Chip;
 use rates::rate::FrameRate;
 use trace_lines::lines::UNTOUCHED;
@@ -74,12 +75,20 @@ fn hand_back(chip: Chip, out: &mut [u8], used: usize) -> Played
     }
 }
 
-// `P` and `Q`: the power-up of a TMS5220, and of a TMS5220C.
-fn power_up(letter: u8, chip: Chip, out: &mut [u8], used: usize) -> Played
+// `P`, `Q`, `W` and `K`: the number alone, and the chip.
+fn answer(letter: u8, refusal: u8, chip: Chip, out: &mut [u8], used: usize) -> Played
     ensures { λ r. ⌜ r .used ≤ length (now (out .entry)) ⌝ }
 {
-    let p = refusal_line(out, used, letter, TAKEN);
+    let p = refusal_line(out, used, letter, refusal);
     hand_back(chip, out, p)
+}
+
+// `R` and `L`: the number, the byte and the chip.
+fn answer_byte(letter: u8, read: ByteRead, out: &mut [u8], used: usize) -> Played
+    ensures { λ r. ⌜ r .used ≤ length (now (out .entry)) ⌝ }
+{
+    let p = read_line(out, used, letter, read.refusal, read.byte);
+    hand_back(read.chip, out, p)
 }
 
 // The numbers of a state.
@@ -107,26 +116,7 @@ fn write(script: &[u8], at: usize, parts: Parts, chip: Chip, out: &mut [u8], use
 {
     let image = part(script, parts.image, parts.image_end);
     let written = chip.write(image, byte_at(script, at));
-    let p = refusal_line(out, used, b'W', written.refusal);
-    hand_back(written.chip, out, p)
-}
-
-// `R`: a byte read.
-fn read(chip: Chip, out: &mut [u8], used: usize) -> Played
-    ensures { λ r. ⌜ r .used ≤ length (now (out .entry)) ⌝ }
-{
-    let read = chip.read();
-    let p = read_line(out, used, b'R', read.refusal, read.byte);
-    hand_back(read.chip, out, p)
-}
-
-// `L`: a look.
-fn look(chip: Chip, out: &mut [u8], used: usize) -> Played
-    ensures { λ r. ⌜ r .used ≤ length (now (out .entry)) ⌝ }
-{
-    let looked = chip.look();
-    let p = read_line(out, used, b'L', looked.refusal, looked.byte);
-    hand_back(looked.chip, out, p)
+    answer(b'W', written.refusal, written.chip, out, used)
 }
 
 // `K`: an acknowledge.
@@ -134,8 +124,7 @@ fn acknowledge(chip: Chip, out: &mut [u8], used: usize) -> Played
     ensures { λ r. ⌜ r .used ≤ length (now (out .entry)) ⌝ }
 {
     let done = chip.acknowledge();
-    let p = refusal_line(out, used, b'K', done.refusal);
-    hand_back(done.chip, out, p)
+    answer(b'K', done.refusal, done.chip, out, used)
 }
 
 // `T`: a sample step.
@@ -239,12 +228,12 @@ pub fn play(
 {
     let body = at + 1;
     match byte_at(script, at) {
-        b'P' => power_up(b'P', Chip::power_up(), out, used),
-        b'Q' => power_up(b'Q', Chip::power_up_5220c(), out, used),
+        b'P' => answer(b'P', TAKEN, Chip::power_up(), out, used),
+        b'Q' => answer(b'Q', TAKEN, Chip::power_up_5220c(), out, used),
         b'S' => set(script, body, out, used),
         b'W' => write(script, body, parts, chip, out, used),
-        b'R' => read(chip, out, used),
-        b'L' => look(chip, out, used),
+        b'R' => answer_byte(b'R', chip.read(), out, used),
+        b'L' => answer_byte(b'L', chip.look(), out, used),
         b'K' => acknowledge(chip, out, used),
         b'T' => step(script, parts, chip, out, used),
         b'U' => run(script, body, parts, chip, out, used),

@@ -44,7 +44,7 @@ partOf s from end = cond (leb from end && leb end (length s)) (take (end - from)
 -- after I and V. No other letter begins a record.
 unfoldable pub bodyOf : ℕ → ℕ → Body
 bodyOf letter count =
-    cond (eqb letter 80 || eqb letter 81 || (eqb letter 82 || eqb letter 76 || eqb letter 75 || eqb letter 84)) (Bytes 0)
+    cond (eqb letter 80 || eqb letter 81 || eqb letter 82 || eqb letter 76 || eqb letter 75 || eqb letter 84) (Bytes 0)
     (cond (eqb letter 87) (Bytes 1)
     (cond (eqb letter 70 || eqb letter 65 || (eqb letter 85 && leb count runLimit)) (Bytes 4)
     (cond (eqb letter 71) (Bytes 5)

@@ -78,8 +78,13 @@ fn body_of(letter: u8, count: usize) -> Body
     requires { ⌜ count < 2 ^ 32 ⌝ }
     ensures { λ r. ⌜ r ≡ bodyOf letter count ⌝ }
 {
-    let call = (letter == b'R') | (letter == b'L') | (letter == b'K') | (letter == b'T');
-    if (letter == b'P') | (letter == b'Q') | call {
+    if (letter == b'P')
+        | (letter == b'Q')
+        | (letter == b'R')
+        | (letter == b'L')
+        | (letter == b'K')
+        | (letter == b'T')
+    {
         return Body::Bytes(0);
     }
     if letter == b'W' {
