@@ -20,12 +20,12 @@ def every_command():
     return out + in_mode(IDLE, pending=1, data=9) + write(SPEAK_EXTERNAL) + step() + write(RESET) + read()
 
 
-# The status at each FIFO level up to external speech with 16 bytes, and with fewer in external speech; the interrupt before it.
+# The status at each FIFO level: from waiting up to external speech with 16 bytes, and set; the interrupt before it.
 def statuses():
     out = image(b'\x00') + silent(mode=WAITING, interrupt=1) + read()
     for byte in range(1, 17):
         out += write(byte) + read()
-    for level in (1, 2, 7, 8, 9, 16):
+    for level in range(1, 17):
         out += external(level, interrupt=level & 1) + read()
     out += silent(mode=WAITING, interrupt=1, **held(8)) + read()
     for mode in (IDLE, ROM):
@@ -61,9 +61,8 @@ def interrupts():
     for data, used in ((silence * 10, 0), (silence * 10, 4), (silence * 9, 0), (silence * 9, 4), (silence * 9, 1),
                        (silence * 8, 4), (whole + silence * 8, 0), (whole + silence * 3, 0), (b'\xff' * 12, 0),
                        (b'\xff' * 3, 7), (silence, 4), (b'\xff', 4), (b'\x0f', 4)):
-        out += fifo(data, used) + step() + read()
-    for data, used in ((silence * 10, 0), (silence * 9, 4), (silence, 4), (b'\xff' * 3, 7)):
-        out += fifo(data, used, interrupt=1) + step() + read()
+        for before in (0, 1):
+            out += fifo(data, used, interrupt=before) + step() + read()
     # a waiting chip and one that is idle keep the interrupt as it was; one that runs out of ROM does not
     for mode in (IDLE, ROM, WAITING):
         out += in_mode(mode, sample=24, interval=7) + step(2)

@@ -65,8 +65,9 @@ def loads():
 # What restarts the nibble and what does not, and what ends pending data.
 def restarts():
     out = image(bytes([0x12, 0x34, 0x56, 0x78, 0xFF] * 4))
-    for at, command in enumerate(COMMANDS):
-        out += silent(position=19, nibble=3, interrupt=1, pending=1, data=128) + write(command + 0x80 * (at & 1) + 9) + read(2)
+    for command in COMMANDS:
+        for top in (0, 0x80):
+            out += silent(position=19, nibble=3, interrupt=1, pending=top >> 7, data=top) + write(command + top + 9) + read(2)
     return out
 
 

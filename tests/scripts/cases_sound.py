@@ -60,7 +60,7 @@ def interpolations():
     out = image(b'\x00') + voice(voices.soft())
     current = {**dict.fromkeys(CURRENT[:2], 500), **{name: 20 * i - 100 for i, name in enumerate(CURRENT[2:])}}
     for interval in range(8):
-        for far in (1, 6):
+        for far in (1, 5, 9):
             target = {name: current[name] + (far + max(i - 2, 0)) * (-1) ** i for i, name in enumerate(CURRENT)}
             # interval 0 takes a frame, a silence, whose energy target is 0
             mode = IDLE if interval else ROM
@@ -83,8 +83,9 @@ def excitations():
         for target in (0, 50):
             fields = {'place': place, 'current pitch': pitch, 'target pitch': target, 'current energy': 1000}
             out += in_mode(IDLE, **flat, **fields) + step(steps)
-    # 2, 4, 9, 18; 2048, 4096, 1, 3; two and three taps; 8191, 8190, 8189, 8186
-    for noise, steps in ((2, 4), (2048, 4), (8, 2), (5, 1), (13, 1), (4104, 1), (4109, 1), (8191, 4)):
+    # 2, 4, 9, 18; 2048, 4096, 1, 3; 8, 17; two, three and four taps; 8191, 8190, 8189, 8186
+    for noise, steps in ((2, 4), (2048, 4), (8, 2), (5, 1), (12, 1), (13, 1), (4097, 1), (4100, 1), (4104, 1),
+                         (4109, 1), (8191, 4)):
         fields = {'noise': noise, 'target pitch': 0, 'current energy': 3 * (noise % 50) + 1}
         out += in_mode(IDLE, **flat, **fields) + step(steps)
     return out
@@ -95,7 +96,7 @@ def filters():
     out = image(b'\x00') + voice(voices.plain(40))
     quiet = dict.fromkeys(CURRENT + TARGET + MEMORY, 0)
     for stage in range(10):
-        for k, memory in ((511, -1), (-512, 8191), (3, 170))[:3 if stage in (0, 9) else 2]:
+        for k, memory in ((511, -1), (-512, 8191), (3, 170)):
             fields = {CURRENT[2 + stage]: k, MEMORY[stage]: memory, 'current energy': 77}
             out += in_mode(IDLE, **{**quiet, **fields}) + step(2)
     # every memory and every K at a bound

@@ -87,17 +87,16 @@ def range_edges():
 
 def level_edges():
     """FIFO levels in each mode: 0 in idle and ROM speech, 0..8 in waiting, 1..16 in external speech."""
-    for mode, levels in ((IDLE, (0, 1, 255)), (ROM, (0, 1, 17)), (WAITING, (0, 8, 9, 16)), (EXTERNAL, (0, 1, 16, 17, 255))):
-        for level in levels:
+    for mode in (IDLE, ROM, WAITING, EXTERNAL):
+        for level in (0, 1, 8, 9, 16, 17, 255):
             yield in_mode(mode, **{**dict.fromkeys(FIFO, 0), **held(level)})
 
 
 def used_edges():
     """Used bits: 0..7 in external speech, else 0."""
-    for used in (1, 7, 8, 255):
-        yield in_mode(EXTERNAL, used=used)
-    for mode in (IDLE, ROM, WAITING):
-        yield in_mode(mode, used=1)
+    for mode in (IDLE, ROM, WAITING, EXTERNAL):
+        for used in (1, 7, 8, 255):
+            yield in_mode(mode, used=used)
 
 
 def unheld_edges():
@@ -121,12 +120,10 @@ def silent_edges():
 
 
 def data_edges():
-    """A data byte without pending, and pending in each mode, with and without the interrupt."""
-    for data in (1, 255):
-        yield in_mode(IDLE, data=data, interrupt=1)
+    """Data byte and pending in each mode, with and without the interrupt."""
     for mode in (IDLE, ROM, WAITING, EXTERNAL):
-        for data in (0, 255):
-            yield in_mode(mode, pending=1, data=data, interrupt=data & 1)
+        for pending, data in ((0, 1), (0, 255), (1, 0), (1, 255)):
+            yield in_mode(mode, pending=pending, data=data, interrupt=data & 1)
 
 
 EDGES = [list(edges()) for edges in (range_edges, level_edges, used_edges, unheld_edges, silent_edges, data_edges)]
