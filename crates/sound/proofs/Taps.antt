@@ -1,14 +1,15 @@
--- The count of ones of the tapped register, digit by digit; the noise register never becomes 0.
+-- The count of ones of the tapped register, digit by digit; the chain of exclusive-ors over the taps is the parity of their count;
+-- the noise register never becomes 0.
 -- Assumes nothing.
 use mathlib.Core.Path.{_≡_, ap, ap₂, _∙_}
 use Prim.Native.Nat.{ℕ, zero, suc, _+_, _*_, _/_, _%_, _^_, _≤_, _<_, min}
 use native.Mathlib.Nat.{pow-suc, div-div-eq-div-mul, div-one, zero-mul, one-mul, zero-add, add-zero}
 use native.Mathlib.Omega.{arith}
 use native.Mathlib.Decide.{ℕ-discrete}
-use lib.Bits.{bitAnd, and-step, and-zero-r}
+use lib.Bits.{bitAnd, bitXor, and-step, and-zero-r, xor-add-and, xor-lt}
 use lib.Count.{ones, ones-step}
 use lib.Dec.{lit<, lit≤}
-use Rattle.sound.specs.Noise.{bitOf, noiseBit, nextNoise}
+use Rattle.sound.specs.Noise.{bitOf, noiseBit, tapChain, TapsAgree, nextNoise}
 
 -- how many of the low k digits are set in both a and b
 abbrev common : ℕ → ℕ → ℕ → ℕ
@@ -39,6 +40,17 @@ tapped n =
   where
     gather : (a b c d : ℕ) → a + (b + (c + d)) ≡ d + c + b + a
     gather a b c d = omega arith
+
+-- a gate of the chain: what comes in is the parity of the taps so far, what goes out of those and one more
+gate : {x : ℕ} (taps b : ℕ) → x ≡ taps % 2 → b < 2 → bitXor x b ≡ (taps + b) % 2
+gate {x} taps b e h = omega (arith, xor-add-and x b, xor-lt 1 x b (omega arith) h)
+
+pub taps-agree : TapsAgree
+unfolding tapChain noiseBit
+taps-agree n =
+    let first = gate {x = bitOf n 12} (bitOf n 12) (bitOf n 3) (omega arith) (omega arith) in
+    let second = gate (bitOf n 12 + bitOf n 3) (bitOf n 2) first (omega arith) in
+    gate (bitOf n 12 + bitOf n 3 + bitOf n 2) (bitOf n 0) second (omega arith)
 
 -- only 4096 would shift out to 0, and its new bit is 1
 pub noise-range : (n : ℕ) → 1 ≤ n → n ≤ 8191 → (1 ≤ nextNoise n) × (nextNoise n ≤ 8191)
