@@ -1,4 +1,5 @@
 pub mod Frames
+pub mod Holding
 pub mod Laws
 pub mod Ranges
 pub mod Samples

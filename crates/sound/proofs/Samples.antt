@@ -16,10 +16,11 @@ use Rattle.base.proofs.Range.{product}
 use Rattle.voice.proofs.Valid.{pulse-range}
 use Rattle.filter.specs.Filter.{forward, newMemory}
 use Rattle.filter.proofs.Ranges.{memory-range}
-use Rattle.sound.specs.Interpolation.{divisor, interpolated}
+use Rattle.sound.specs.Interpolation.{divisor, keepsCurrent, interpolated}
 use Rattle.sound.specs.Noise.{nextNoise}
 use Rattle.sound.specs.Pulse.{pulseMax, nextPulse}
-use Rattle.sound.specs.Sample.{isVoiced, excitationOf, excitationUnit, inputOf, valueOf, renewed, sampled, soundStep}
+use Rattle.sound.specs.Sample.{excitationOf, excitationUnit, inputOf, valueOf, renewed, sampled, soundStep}
+use Rattle.sound.specs.Targets.{isVoiced}
 use Rattle.sound.specs.declared.sample.Sampled.{Sampled}
 use Rattle.sound.specs.declared.state.Sound.{Sound}
 use Rattle.sound.proofs.Ranges.{toward-between, toward-each-between}
@@ -51,7 +52,7 @@ place-range place {pitch = negsuc q} h l = omega arith
 
 module _ (P : ℕ) (file : List ℕ) (s : Sound) where
   abbrev input : ℤ
-  input = inputOf (s .current .energy) (excitationOf P file (isVoiced s) (s .pulse) (s .noise))
+  input = inputOf (s .current .energy) (excitationOf P file (isVoiced (s .target)) (s .pulse) (s .noise))
 
   -- what the calls of a sample give
   pub record SampleParts (v : ℤ) (m : List ℤ) (n p : ℕ) : Type 0 where
@@ -78,11 +79,13 @@ module _ (P : ℕ) (file : List ℕ) (s : Sound) where
 
 pub interpolated-ranges : (interval : Intervals) {s : Sound} → SoundRanges s → SoundRanges (interpolated interval s)
 unfolding interpolated
-interpolated-ranges interval h =
+interpolated-ranges interval {s} h =
     let d = divisor interval in
+    by-test SoundRanges (keepsCurrent interval s) (λ kept. h)
+    (λ moved.
     with-current h
     (record {
       energy = toward-between d (h .current .energy) (h .target .energy);
       pitch = toward-between d (h .current .pitch) (h .target .pitch);
       k = toward-each-between d (h .current .k) (h .target .k);
-    })
+    }))

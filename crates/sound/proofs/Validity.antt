@@ -1,11 +1,11 @@
 -- The tests of a valid sound and of the sound at rest, as ranges.
 -- Assumes nothing.
 use mathlib.Core.Path.{_≡_, refl, ap, ap₂, _∙_}
-use mathlib.Core.Bool.{Bool, true}
+use mathlib.Core.Bool.{Bool, true, not}
 use mathlib.Core.List.{List, [], _∷_}
 use Prim.Native.Nat.{ℕ, zero, suc, _≤_}
 use native.Mathlib.Omega.{arith}
-use borrow.Author.Tests.{leb-true, le-leb, eqb-true, eq-eqb}
+use borrow.Author.Tests.{not-true, leb-true, le-leb, eqb-true, eq-eqb}
 use lib.Dec.{eqb, leb}
 use lib.IntN.{ℤ, pos, negsuc, negℤ}
 use lib.ListN.{length, getD, replicate}
@@ -15,7 +15,7 @@ use Rattle.base.proofs.Range.{tested, testing, all-tested, all-testing}
 use Rattle.filter.specs.Ranges.{stages, tenInside, TenBetween}
 use Rattle.sound.specs.Noise.{noiseMax}
 use Rattle.sound.specs.Pulse.{pulseMax}
-use Rattle.sound.specs.State.{withCurrent, withTarget, withMemory, withNoise, withPulse, paramsInside, paramsValid, memoryValid, noiseValid, pulseValid, soundValid, restParams, restSound, zeroParams, atRest}
+use Rattle.sound.specs.State.{withCurrent, withTarget, withMemory, withNoise, withPulse, withHold, paramsInside, paramsValid, memoryValid, noiseValid, pulseValid, soundValid, restParams, restSound, zeroParams, atRest}
 use Rattle.sound.specs.declared.params.Params.{Params}
 use Rattle.sound.specs.declared.state.Sound.{Sound}
 
@@ -51,6 +51,9 @@ module _ {s : Sound} (h : SoundRanges s) where
 
   pub with-pulse : {p : ℕ} → p ≤ pulseMax → SoundRanges (withPulse p s)
   with-pulse r = record { current = h .current; target = h .target; memory = h .memory; noise-low = h .noise-low; noise-high = h .noise-high; pulse = r }
+
+  pub with-hold : {b : Bool} → SoundRanges (withHold b s)
+  with-hold = record { current = h .current; target = h .target; memory = h .memory; noise-low = h .noise-low; noise-high = h .noise-high; pulse = h .pulse }
 
 -- ---- each test is its range
 
@@ -127,11 +130,12 @@ zero-params {v} h =
 pub rest-is : (s : Sound) → atRest s ≡ true → s ≡ restSound
 unfolding atRest
 rest-is s e =
-    let t = all-true (zeroParams (s .current) ∷ zeroParams (s .target) ∷ tenInside (pos 0) (pos 0) (s .memory) ∷ eqb (s .noise) noiseMax ∷ eqb (s .pulse) 0 ∷ []) e in
+    let t = all-true (zeroParams (s .current) ∷ zeroParams (s .target) ∷ tenInside (pos 0) (pos 0) (s .memory) ∷ eqb (s .noise) noiseMax ∷ eqb (s .pulse) 0 ∷ not (s .hold) ∷ []) e in
     let ten = ten-tested 0 0 (s .memory) (t .1 .1 .0) in
     let still : Sound = withTarget restParams (withCurrent restParams s) in
     ap₂ (λ (c v : Params). withTarget v (withCurrent c s))
     (zero-params (params-tested 0 0 0 (s .current) (t .0))) (zero-params (params-tested 0 0 0 (s .target) (t .1 .0)))
     ∙ ap₂ (λ (l : List ℤ) (r : ℕ). withNoise r (withMemory l still))
     (zeros-are stages (s .memory) (ten .size) (ten .each)) (eqb-true (s .noise) noiseMax (t .1 .1 .1 .0))
-    ∙ ap (λ (q : ℕ). withPulse q (withNoise noiseMax (withMemory (replicate stages (pos 0)) still))) (eqb-true (s .pulse) 0 (t .1 .1 .1 .1 .0))
+    ∙ ap₂ (λ (q : ℕ) (b : Bool). withHold b (withPulse q (withNoise noiseMax (withMemory (replicate stages (pos 0)) still))))
+    (eqb-true (s .pulse) 0 (t .1 .1 .1 .1 .0)) (not-true (s .hold) (t .1 .1 .1 .1 .1 .0))

@@ -1,9 +1,9 @@
 -- One sample, and samples one after another (01, "Sound"). P is the width of the pitch field, 6 here.
-use mathlib.Core.Bool.{Bool, cond, not}
+use mathlib.Core.Bool.{Bool, cond}
 use mathlib.Core.List.{List}
 use Prim.Native.Nat.{ℕ, _%_}
 use lib.Dec.{eqb}
-use lib.IntN.{ℤ, pos, negℤ, natAbs, _*ℤ_}
+use lib.IntN.{ℤ, pos, negℤ, _*ℤ_}
 use lib.Signed.{shrZ}
 use Rattle.base.specs.Range.{clamped}
 use Rattle.base.specs.Steps.{stateAfter, outputs}
@@ -12,12 +12,9 @@ use Rattle.filter.specs.Filter.{forward, newMemory}
 use Rattle.sound.specs.Noise.{nextNoise}
 use Rattle.sound.specs.Pulse.{nextPulse}
 use Rattle.sound.specs.State.{withMemory, withNoise, withPulse}
+use Rattle.sound.specs.Targets.{isVoiced}
 use Rattle.sound.specs.declared.state.Sound.{Sound}
 use Rattle.sound.specs.declared.sample.Sampled.{Sampled}
-
--- voiced means target pitch not 0
-abbrev pub isVoiced : Sound → Bool
-isVoiced s = not (eqb (natAbs (s .target .pitch)) 0)
 
 -- the excitation of noise, up or down
 abbrev pub noiseLevel : ℕ
@@ -55,7 +52,7 @@ renewed m n p s = withMemory m (withNoise n (withPulse p s))
 -- a sample: its value, and the sound after it; excitation is from the old pulse place and noise register
 unfoldable pub sampled : ℕ → List ℕ → Sound → Sampled
 sampled P file s =
-    let input = inputOf (s .current .energy) (excitationOf P file (isVoiced s) (s .pulse) (s .noise)) in
+    let input = inputOf (s .current .energy) (excitationOf P file (isVoiced (s .target)) (s .pulse) (s .noise)) in
     record {
       sound = renewed (newMemory (s .current .k) (s .memory) input) (nextNoise (s .noise)) (nextPulse (s .pulse) (s .current .pitch)) s;
       value = valueOf (forward (s .current .k) (s .memory) input);

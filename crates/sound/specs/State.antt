@@ -1,5 +1,5 @@
 -- The sound with one of its parts changed, its part of a valid state (01, "State ranges"), and the sound at rest (01, "Sound").
-use mathlib.Core.Bool.{Bool, _&&_}
+use mathlib.Core.Bool.{Bool, false, not, _&&_}
 use mathlib.Core.List.{List}
 use Prim.Native.Nat.{ℕ}
 use lib.Dec.{eqb, leb}
@@ -17,23 +17,27 @@ use Rattle.sound.specs.declared.state.Sound.{Sound}
 
 -- other currents
 abbrev pub withCurrent : Params → Sound → Sound
-withCurrent c s = record { current = c; target = s .target; memory = s .memory; noise = s .noise; pulse = s .pulse }
+withCurrent c s = record { current = c; target = s .target; memory = s .memory; noise = s .noise; pulse = s .pulse; hold = s .hold }
 
 -- other targets
 abbrev pub withTarget : Params → Sound → Sound
-withTarget t s = record { current = s .current; target = t; memory = s .memory; noise = s .noise; pulse = s .pulse }
+withTarget t s = record { current = s .current; target = t; memory = s .memory; noise = s .noise; pulse = s .pulse; hold = s .hold }
 
 -- another filter memory
 abbrev pub withMemory : List ℤ → Sound → Sound
-withMemory m s = record { current = s .current; target = s .target; memory = m; noise = s .noise; pulse = s .pulse }
+withMemory m s = record { current = s .current; target = s .target; memory = m; noise = s .noise; pulse = s .pulse; hold = s .hold }
 
 -- another noise register
 abbrev pub withNoise : ℕ → Sound → Sound
-withNoise n s = record { current = s .current; target = s .target; memory = s .memory; noise = n; pulse = s .pulse }
+withNoise n s = record { current = s .current; target = s .target; memory = s .memory; noise = n; pulse = s .pulse; hold = s .hold }
 
 -- another pulse place
 abbrev pub withPulse : ℕ → Sound → Sound
-withPulse p s = record { current = s .current; target = s .target; memory = s .memory; noise = s .noise; pulse = p }
+withPulse p s = record { current = s .current; target = s .target; memory = s .memory; noise = s .noise; pulse = p; hold = s .hold }
+
+-- holding its currents, or not
+abbrev pub withHold : Bool → Sound → Sound
+withHold h s = record { current = s .current; target = s .target; memory = s .memory; noise = s .noise; pulse = s .pulse; hold = h }
 
 -- ---- ranges
 
@@ -67,9 +71,9 @@ soundValid s = paramsValid (s .current) && paramsValid (s .target) && memoryVali
 abbrev pub restParams : Params
 restParams = record { energy = pos 0; pitch = pos 0; k = replicate stages (pos 0) }
 
--- the sound at rest: currents, targets, filter memory and pulse place zero; noise register 8191
+-- the sound at rest: currents, targets, filter memory and pulse place zero; noise register 8191; it does not hold (02, §3)
 abbrev pub restSound : Sound
-restSound = record { current = restParams; target = restParams; memory = replicate stages (pos 0); noise = noiseMax; pulse = 0 }
+restSound = record { current = restParams; target = restParams; memory = replicate stages (pos 0); noise = noiseMax; pulse = 0; hold = false }
 
 -- whether energy, pitch and each K are zero
 abbrev pub zeroParams : Params → Bool
@@ -79,4 +83,4 @@ zeroParams v = paramsInside (pos 0) (pos 0) (pos 0) v
 unfoldable pub atRest : Sound → Bool
 atRest s =
     zeroParams (s .current) && zeroParams (s .target) && tenInside (pos 0) (pos 0) (s .memory) && eqb (s .noise) noiseMax
-    && eqb (s .pulse) 0
+    && eqb (s .pulse) 0 && not (s .hold)

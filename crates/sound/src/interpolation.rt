@@ -1,4 +1,5 @@
-// Interpolation: at an interval's first sample the currents move towards the targets.
+// Interpolation: at an interval's first sample the currents move towards the targets; in a frame that holds, at the last interval
+// alone.
 ghost use mathlib.Core.Path.{_≡_};
 ghost use mathlib.Core.Bool.{true};
 ghost use mathlib.Core.List.{zipWith};
@@ -16,6 +17,9 @@ use filter::filter::STAGES;
 
 // The divisors 8, 8, 8, 4, 4, 2, 2, 1 of the intervals, as powers of two.
 const SHIFTS: [u32; Frames::INTERVALS as usize] = [3, 3, 3, 2, 2, 1, 1, 0];
+
+// The interval in which the currents reach the targets: it shifts by 0.
+const ARRIVAL: u64 = Frames::INTERVALS - 1;
 
 // The shift of an interval.
 fn shift_of(interval: Intervals) -> u32
@@ -69,6 +73,9 @@ impl Sound {
         requires { ⌜ (soundValid self ≡ true) × (interval .0 < intervalsPerFrame) ⌝ }
         ensures { λ r. ⌜ r ≡ interpolated interval self ⌝ }
     {
+        if (interval.count() < ARRIVAL) & self.hold {
+            return self;
+        }
         let from = self.current;
         let to = self.target;
         self.with_current(from.toward(to, shift_of(interval)))

@@ -1,6 +1,7 @@
 // The parameters of the sound, which are its currents or its targets, and their ranges.
 ghost use mathlib.Core.Path.{_≡_};
 ghost use Rattle.sound.specs.State.{paramsInside, paramsValid, zeroParams};
+ghost use Rattle.sound.specs.Targets.{isVoiced, isMute};
 use filter::filter::STAGES;
 use filter::range::all_inside;
 use filter::range::is_inside;
@@ -38,5 +39,19 @@ impl Params {
         ensures { λ r. ⌜ r ≡ zeroParams self ⌝ }
     {
         self.is_inside(0, 0, 0)
+    }
+
+    // Of targets: whether the pitch is not 0.
+    pub(crate) fn is_voiced(self) -> bool
+        ensures { λ r. ⌜ r ≡ isVoiced self ⌝ }
+    {
+        self.pitch != 0
+    }
+
+    // Of targets: whether the energy is 0.
+    pub(crate) fn is_mute(self) -> bool
+        ensures { λ r. ⌜ r ≡ isMute self ⌝ }
+    {
+        self.energy == 0
     }
 }

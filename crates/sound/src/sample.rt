@@ -6,7 +6,7 @@ ghost use lib.ListN.{length};
 ghost use Rattle.base.specs.Range.{Between};
 ghost use Rattle.filter.specs.Filter.{forward, newMemory};
 ghost use Rattle.filter.specs.Ranges.{TenBetween};
-ghost use Rattle.sound.specs.Sample.{isVoiced, excitationOf, inputOf, valueOf, renewed, sampled, soundAfter, valuesOf};
+ghost use Rattle.sound.specs.Sample.{excitationOf, inputOf, valueOf, renewed, sampled, soundAfter, valuesOf};
 ghost use Rattle.sound.specs.State.{soundValid};
 use crate::noise::next_noise;
 use crate::pulse::next_pulse;
@@ -60,14 +60,6 @@ fn filtered(k: &[i32; STAGES], memory: &mut [i32; STAGES], energy: i32, excitati
 }
 
 impl Sound {
-    // Whether the target pitch is not 0.
-    fn is_voiced(self) -> bool
-        ensures { λ r. ⌜ r ≡ isVoiced self ⌝ }
-    {
-        let target = self.target;
-        target.pitch != 0
-    }
-
     // The sound with the parts that a sample renews.
     fn renew(self, memory: [i32; STAGES], noise: u32, pulse: u32) -> Sound
         ensures { λ r. ⌜ r ≡ renewed memory noise pulse self ⌝ }
@@ -81,9 +73,10 @@ impl Sound {
         ensures { λ r. ⌜ r ≡ sampled «pitch_bits» (now (file .entry)) self ⌝ }
     {
         let current = self.current;
+        let target = self.target;
         let k = current.k;
         let mut memory = self.memory;
-        let x = excitation(file, self.is_voiced(), self.pulse, self.noise, pitch_bits);
+        let x = excitation(file, target.is_voiced(), self.pulse, self.noise, pitch_bits);
         let value = filtered(&k, &mut memory, current.energy, x);
         let noise = next_noise(self.noise);
         let pulse = next_pulse(self.pulse, current.pitch);
@@ -98,8 +91,9 @@ impl Sound {
         ensures { λ r. ⌜ now (out .exit) ≡ valuesOf «pitch_bits» (now (file .entry)) (length (now (out .entry))) self ⌝ }
     {
         let current = self.current;
+        let target = self.target;
         let k = current.k;
-        let voiced = self.is_voiced();
+        let voiced = target.is_voiced();
         let mut memory = self.memory;
         let mut noise = self.noise;
         let mut pulse = self.pulse;

@@ -1,19 +1,21 @@
 // The state of the sound, the sound with one of its parts changed, its ranges, and the sound at rest.
 ghost use mathlib.Core.Path.{_≡_};
-ghost use Rattle.sound.specs.State.{withCurrent, withTarget, withMemory, withNoise, withPulse, restSound, atRest, soundValid};
+ghost use Rattle.sound.specs.State.{withCurrent, withTarget, withMemory, withNoise, withPulse, withHold, restSound, atRest, soundValid};
 use crate::params::Params;
 use filter::filter::MEMORY_MAX;
 use filter::filter::MEMORY_MIN;
 use filter::filter::STAGES;
 use filter::range::all_inside;
 
-// The currents and the targets, the filter's memory, the noise register and the pulse place.
+// The currents and the targets, the filter's memory, the noise register and the pulse place, and whether the frame holds its
+// currents.
 pub struct Sound {
     pub current: Params,
     pub target: Params,
     pub memory: [i32; STAGES],
     pub noise: u32,
     pub pulse: u32,
+    pub hold: bool,
 }
 
 impl Sound {
@@ -38,6 +40,7 @@ impl Sound {
             memory: zeros,
             noise: Self::NOISE_MAX,
             pulse: 0,
+            hold: false,
         }
     }
 
@@ -81,6 +84,14 @@ impl Sound {
         sound
     }
 
+    pub fn with_hold(self, hold: bool) -> Sound
+        ensures { λ r. ⌜ r ≡ withHold hold self ⌝ }
+    {
+        let mut sound = self;
+        sound.hold = hold;
+        sound
+    }
+
     // Whether it equals the sound at rest.
     pub fn is_at_rest(self) -> bool
         ensures { λ r. ⌜ r ≡ atRest self ⌝ }
@@ -93,6 +104,7 @@ impl Sound {
             & all_inside(memory, 0, 0)
             & (self.noise == Self::NOISE_MAX)
             & (self.pulse == 0)
+            & !self.hold
     }
 
     // Whether each field is in its range.

@@ -1,7 +1,7 @@
-// The targets that a frame sets.
+// The targets that a frame sets, and whether it holds the currents.
 ghost use mathlib.Core.Path.{_≡_};
 ghost use Prim.Native.Nat.{_≤_};
-ghost use Rattle.sound.specs.Targets.{targetsOf, withTargets};
+ghost use Rattle.sound.specs.Targets.{targetsOf, holds, withTargets};
 use crate::params::Params;
 use crate::state::Sound;
 use rom::frames::Frame;
@@ -88,13 +88,23 @@ fn targets(file: &[u8], frame: Frame, old: Params, pitch_bits: usize) -> Params
     }
 }
 
+// Whether a frame holds the currents: it changes voiced to unvoiced or back, or its energy comes from 0.
+fn holds(old: Params, new: Params) -> bool
+    ensures { λ r. ⌜ r ≡ holds old new ⌝ }
+{
+    let was = old.is_voiced();
+    let is = new.is_voiced();
+    (was & !is) | (!was & is) | (old.is_mute() & !new.is_mute())
+}
+
 impl Sound {
-    // The sound with the targets of a frame.
+    // The sound with the targets of a frame, holding its currents or not.
     pub fn set_targets(self, file: &[u8], frame: Frame, pitch_bits: usize) -> Sound
         requires { ⌜ «pitch_bits» ≤ 8 ⌝ }
         ensures { λ r. ⌜ r ≡ withTargets «pitch_bits» (now (file .entry)) frame self ⌝ }
     {
         let old = self.target;
-        self.with_target(targets(file, frame, old, pitch_bits))
+        let new = targets(file, frame, old, pitch_bits);
+        self.with_target(new).with_hold(holds(old, new))
     }
 }

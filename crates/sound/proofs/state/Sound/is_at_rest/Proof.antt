@@ -7,7 +7,7 @@ use Rattle.sound.proofs.state.Sound.is_at_rest.Tie as tie
 returns : tie.Need-returns
 unfolding atRest
 returns c =
-    let m = c .before .before in
+    let m = c .before .before .before in
     rw (m .before .before .is-zero .ensures, m .before .is-zero2 .ensures, m .all-inside .ensures)
 
 pub is-at-rest-spec : {M : Type 1} → statement M

@@ -30,7 +30,7 @@ excited-range : (c : tie.After-excitation Inv-loop μ-loop) → Between 128 127 
 excited-range c =
     let l = c .before .before .loop in
     let v = c .before .before .before .before in
-    let a = v .before .before .before .before .args in
+    let a = v .before .before .before .before .before .args in
     rw (c .excitation .ensures)
     (excitation-range (a .pitch-bits) (now (a .file)) (v .is-voiced .result) (l .pulse) (l .noise))
 
@@ -39,7 +39,7 @@ loop-again c =
     let v = c .before .before .before .filtered in
     let x = c .before .before .before .before .before .before .before in
     let l = x .before .before .loop in
-    let a = x .before .before .before .before .before .before .before .before .args in
+    let a = x .before .before .before .before .before .before .before .before .before .args in
     let ok = l .inv .holds in
     let e = simp (read tt (ok .current .energy), read tt (excited-range x)) at (v .ensures) in
     let e = rw (x .excitation .ensures, x .before .before .before .before .is-voiced .ensures) at e in
@@ -57,8 +57,8 @@ loop-again c =
 pub play-spec : {M : Type 1} → statement M
 play-spec =
     tie.close (tie.spec Inv-loop μ-loop (λ c κs. search needs)
-    (λ c. filled-none (soundStep _ _) SoundRanges _ _ (ranges _ (c .before .before .before .before .before .pre .0)))
-    (λ c κs. c .before .before .before .before .before .before .before .pre .1)
+    (λ c. filled-none (soundStep _ _) SoundRanges _ _ (ranges _ (c .before .before .before .before .before .before .pre .0)))
+    (λ c κs. c .before .before .before .before .before .before .before .before .pre .1)
     (λ c κs.
     let x = c .before .before .before in
     let ok = x .before .before .loop .inv .holds in

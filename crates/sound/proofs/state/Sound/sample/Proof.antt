@@ -17,7 +17,7 @@ module _ (s : tie.Start) where
 -- what `excitation` gives is a signed byte
 excited-range : (c : tie.After-excitation) → Between 128 127 (c .excitation .result)
 excited-range c =
-    let a = c .before .before .before .before .before .before .args in
+    let a = c .before .before .before .before .before .before .before .args in
     rw (c .excitation .ensures)
     (excitation-range (a .pitch-bits) (now (a .file)) (c .before .is-voiced .result) (a .self .pulse) (a .self .noise))
 
@@ -26,7 +26,7 @@ returns c =
     let d = c .before in
     let v = d .before .before .before .filtered in
     let x = d .before .before .before .before .before .before .before in
-    let s = x .before .before .before .before .before .before in
+    let s = x .before .before .before .before .before .before .before in
     let e = simp (read tt (ok s .current .energy), read tt (excited-range x)) at (v .ensures) in
     let e = rw (x .excitation .ensures, x .before .is-voiced .ensures) at e in
     rw (c .renew .ensures)
@@ -43,8 +43,8 @@ sample-spec =
     tie.close (tie.spec (λ c κs. search needs) (λ c κs. search needs)
     (λ c κs.
     let x = c .before .before .before in
-    let s = x .before .before .before .before .before .before in
+    let s = x .before .before .before .before .before .before .before in
     (ok s .current .k, ok s .memory, passed tt (ok s .current .energy), passed tt (excited-range x)))
-    (λ c κs. search (needs, ok (c .before .before .before .before .before .before .before .before .before .before) .noise-high))
-    (λ c κs. ok (c .before .before .before .before .before .before .before .before .before .before .before .before) .pulse)
+    (λ c κs. search (needs, ok (c .before .before .before .before .before .before .before .before .before .before .before) .noise-high))
+    (λ c κs. ok (c .before .before .before .before .before .before .before .before .before .before .before .before .before) .pulse)
     (λ c κs. search needs) returns)
