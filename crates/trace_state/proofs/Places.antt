@@ -10,7 +10,7 @@ use lib.Seq.{drop-drop, drop-at, getD-drop}
 use Rattle.trace_script.specs.Script.{stateLength}
 use Rattle.trace_state.specs.Types.{Chip}
 use Rattle.trace_state.specs.Numbers.{wide}
-use Rattle.trace_state.specs.Fields.{controlNumbers, clockNumbers, deviceFields, paramNumbers, stateNumbers, nth}
+use Rattle.trace_state.specs.Fields.{controlNumbers, clockNumbers, laterNumbers, paramNumbers, stateNumbers, nth}
 
 -- past a part of n numbers from number m on
 further : (s xs ys : List ℤ) (m n : ℕ) → length xs ≡ n → drop m s ≡ xs ++ ys → drop (m + n) s ≡ ys
@@ -45,11 +45,11 @@ module _ (c : Chip) where
   abbrev target : List ℤ
   target = paramNumbers (c .sound .target)
 
-  abbrev device : List ℤ
-  device = map wide (deviceFields (c .control .device))
+  abbrev later : List ℤ
+  later = map wide (laterNumbers c)
 
   abbrev from-memory : List ℤ
-  from-memory = c .sound .memory ++ device
+  from-memory = c .sound .memory ++ later
 
   abbrev from-target : List ℤ
   from-target = target ++ from-memory
@@ -101,15 +101,15 @@ module _ (c : Chip) where
 
         module _ (ten : length (c .sound .memory) ≡ 10) where
           pub memory-is : (i : ℕ) → 53 ≤ i → i < 63 → nth (c .sound .memory) (i - 53) ≡ nth (stateNumbers c) i
-          memory-is i h j = within (stateNumbers c) (c .sound .memory) device 53 i memory-at h (omega (arith, ten))
+          memory-is i h j = within (stateNumbers c) (c .sound .memory) later 53 i memory-at h (omega (arith, ten))
 
-          pub device-at : drop 63 (stateNumbers c) ≡ device
-          device-at = further (stateNumbers c) (c .sound .memory) device 53 10 ten memory-at
+          pub later-at : drop 63 (stateNumbers c) ≡ later
+          later-at = further (stateNumbers c) (c .sound .memory) later 53 10 ten memory-at
 
-          pub device-is : (i : ℕ) → 63 ≤ i → wide (getD (deviceFields (c .control .device)) (i - 63) 0) ≡ nth (stateNumbers c) i
-          device-is i h = sym (List·getD-map wide (deviceFields (c .control .device)) (i - 63) 0) ∙ beyond (stateNumbers c) device 63 i device-at h
+          pub later-is : (i : ℕ) → 63 ≤ i → wide (getD (laterNumbers c) (i - 63) 0) ≡ nth (stateNumbers c) i
+          later-is i h = sym (List·getD-map wide (laterNumbers c) (i - 63) 0) ∙ beyond (stateNumbers c) later 63 i later-at h
 
           pub state-length : length (stateNumbers c) ≡ stateLength
           state-length =
-              let n : length (stateNumbers c) - 63 ≡ 3 = sym (length-drop 63 (stateNumbers c)) ∙ ap length device-at in
+              let n : length (stateNumbers c) - 63 ≡ 4 = sym (length-drop 63 (stateNumbers c)) ∙ ap length later-at in
               omega arith

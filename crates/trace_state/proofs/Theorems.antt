@@ -11,10 +11,10 @@ use lib.Seq.{take-at, drop-drop, getD-drop}
 use Rattle.control.specs.Device.{rateOf}
 use Rattle.trace_state.specs.Types.{Clock, Device, Tms5220, Tms5220C, Params, Chip}
 use Rattle.trace_state.specs.Numbers.{wide, natural, kindNumber, flagOf}
-use Rattle.trace_state.specs.Fields.{paramNumbers, stateNumbers, nth, addressOf, fifoOf, portOf, clockOf, deviceOf, paramsOf, soundOf, chipOf}
+use Rattle.trace_state.specs.Fields.{laterNumbers, paramNumbers, stateNumbers, nth, addressOf, fifoOf, portOf, clockOf, deviceOf, paramsOf, soundOf, chipOf}
 use Rattle.trace_state.specs.Laws.{StateLength, ParamsInFormat, InFormat, ComesBack}
 use Rattle.trace_state.proofs.Signed.{natural-back, naturals-back, shorts-back, level-back, flag-back, mode-back}
-use Rattle.trace_state.proofs.Places.{bytes-at, clock-at, current-at, target-at, memory-at, device-at, state-length}
+use Rattle.trace_state.proofs.Places.{bytes-at, clock-at, current-at, target-at, memory-at, later-at, state-length}
 
 -- number i, which is number j of what stands in a list from number m on
 number : (s xs : List ℤ) (m j i : ℕ) → i ≡ m + j → drop m s ≡ xs → nth s i ≡ nth xs j
@@ -56,6 +56,10 @@ module _ (c : Chip) (f : InFormat c) where
         natural-back 255 (k .interval .0) (f .interval) (omega arith),
       )
 
+  -- what stands from number 64 on
+  later : drop 63 s ≡ map wide (laterNumbers c)
+  later = later-at c (f .sixteen) (f .current .k .ten) (f .target .k .ten) (f .memory .ten)
+
   sound-back : soundOf s ≡ c .sound
   sound-back =
       let e = clock-at c (f .sixteen) in
@@ -68,6 +72,8 @@ module _ (c : Chip) (f : InFormat c) where
         shorts-back (c .sound .memory) (f .memory .shorts),
         number s _ 24 3 27 refl e,
         number s _ 24 4 28 refl e,
+        number s _ 63 3 66 refl later,
+        flag-back (c .sound .hold),
         natural-back 32767 (c .sound .noise) (f .noise) (omega arith),
         natural-back 32767 (c .sound .pulse) (f .pulse) (omega arith),
       )
@@ -96,7 +102,7 @@ module _ (c : Chip) (f : InFormat c) where
 
   device-back : deviceOf s ≡ c .control .device
   device-back =
-      let e = device-at c (f .sixteen) (f .current .k .ten) (f .target .k .ten) (f .memory .ten) in
+      let e = later in
       rw (number s _ 63 0 63 refl e, number s _ 63 1 64 refl e, number s _ 63 2 65 refl e) (kind-back (c .control .device) (f .v) (f .rr))
 
 pub state-length-is : StateLength

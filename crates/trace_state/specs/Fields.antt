@@ -26,9 +26,11 @@ controlNumbers c =
 abbrev pub clockNumbers : Clock → ℕ → ℕ → List ℕ
 clockNumbers c noise pulse = flag (c .sounding) ∷ c .sample .0 ∷ c .interval .0 ∷ noise ∷ pulse ∷ []
 
--- 64..66: device, v, rr; the last two are 0 on the TMS5220
-abbrev pub deviceFields : Device → List ℕ
-deviceFields d = kindNumber d ∷ rateOf d .v ∷ rateOf d .rr ∷ []
+-- 64..67, those of document 02: device; v and rr, 0 on the TMS5220; whether the frame holds
+abbrev pub laterNumbers : Chip → List ℕ
+laterNumbers c =
+    let d = c .control .device in
+    kindNumber d ∷ rateOf d .v ∷ rateOf d .rr ∷ flag (c .sound .hold) ∷ []
 
 -- energy, pitch, K1..K10
 abbrev pub paramNumbers : Params → List ℤ
@@ -43,7 +45,7 @@ stateNumbers c =
     ++ (paramNumbers (c .sound .current)
     ++ (paramNumbers (c .sound .target)
     ++ (c .sound .memory
-    ++ map wide (deviceFields (c .control .device)))))))
+    ++ map wide (laterNumbers c))))))
 
 -- number i, counted from 0
 abbrev pub nth : List ℤ → ℕ → ℤ
@@ -81,7 +83,7 @@ paramsOf s at = record {
 abbrev pub deviceOf : List ℤ → Device
 deviceOf s = cond (flagOf (nth s 63)) (Tms5220C (record { v = natural 255 (nth s 64); rr = natural 255 (nth s 65) })) Tms5220
 
--- currents, targets, filter memory, noise register, pulse place
+-- currents, targets, filter memory, noise register, pulse place, whether the frame holds
 abbrev pub soundOf : List ℤ → Sound
 soundOf s = record {
   current = paramsOf s 29;
@@ -89,6 +91,7 @@ soundOf s = record {
   memory = map short (take 10 (drop 53 s));
   noise = natural 32767 (nth s 27);
   pulse = natural 32767 (nth s 28);
+  hold = flagOf (nth s 66);
 }
 
 -- the chip of a list of numbers; a number beyond its field's range in the format becomes the nearest end of the range

@@ -166,6 +166,7 @@ fn sound_of(numbers: Numbers) -> Sound
         memory,
         noise: level_at(numbers, 27),
         pulse: level_at(numbers, 28),
+        hold: flag_at(numbers, 66),
     }
 }
 

@@ -4,7 +4,7 @@ ghost use Prim.Native.Nat.{_<_};
 ghost use lib.IntN.{pos};
 ghost use lib.ListN.{getD};
 ghost use Rattle.trace_script.specs.Script.{stateLength};
-ghost use Rattle.trace_state.specs.Fields.{controlNumbers, clockNumbers, deviceFields, paramNumbers, stateNumbers};
+ghost use Rattle.trace_state.specs.Fields.{controlNumbers, clockNumbers, laterNumbers, paramNumbers, stateNumbers};
 use crate::numbers::Numbers;
 use crate::numbers::flag;
 use crate::numbers::kind_number;
@@ -13,7 +13,6 @@ use crate::numbers::mode_number;
 use crate::numbers::wide;
 use chip::state::Chip;
 use clock::Clock;
-use control::device::Device;
 use control::state::Control;
 use sound::params::Params;
 use trace_script::STATE_LENGTH;
@@ -50,12 +49,19 @@ fn clock_numbers(clock: Clock, noise: u32, pulse: u32) -> [u64; 5]
     ]
 }
 
-// The device, and the rate that is set on it.
-fn device_fields(device: Device) -> [u64; 3]
-    ensures { λ r. ⌜ r ≡ deviceFields device ⌝ }
+// What document 02 added: the device, the rate that is set on it, and whether the frame holds.
+fn later_numbers(chip: Chip) -> [u64; 4]
+    ensures { λ r. ⌜ r ≡ laterNumbers chip ⌝ }
 {
+    let control = chip.control;
+    let device = control.device;
     let rate = device.rate();
-    [kind_number(device), rate.v as u64, rate.rr as u64]
+    [
+        kind_number(device),
+        rate.v as u64,
+        rate.rr as u64,
+        flag(chip.sound.hold),
+    ]
 }
 
 fn ten_number(ten: [i32; 10], i: usize) -> i64
@@ -111,8 +117,7 @@ fn field(chip: Chip, i: usize) -> i64
         let memory = sound.memory;
         return ten_number(memory, i - 53);
     }
-    let device = control.device;
-    let list = device_fields(device);
+    let list = later_numbers(chip);
     wide(list[i - 63])
 }
 

@@ -3,22 +3,23 @@ use borrow.Author.Needs.{needs}
 use mathlib.Core.Path.{_≡_, _∙_}
 use lib.ListN.{length}
 use Rattle.base.proofs.Signed.{returned}
-use Rattle.trace_state.proofs.Places.{control-is, bytes-is, clock-is, current-is, target-is, memory-is, device-is}
+use Rattle.trace_state.proofs.Places.{control-is, bytes-is, clock-is, current-is, target-is, memory-is, later-is}
 use Rattle.trace_state.proofs.to_list.field.Statement.{statement}
 use Rattle.trace_state.proofs.to_list.field.Tie as tie
 
+-- `search` enters so many fields and no more, and a chip has more: `s .good .0 .1 .1 .1 .0` is what is known of its sound
 module _ (s : tie.Start) where
   sixteen : length (s .args .chip .control .fifo .bytes) ≡ 16
   sixteen = search needs
 
   current : length (s .args .chip .sound .current .k) ≡ 10
-  current = search needs
+  current = search (needs, s .good .0 .1 .1 .1 .0)
 
   target : length (s .args .chip .sound .target .k) ≡ 10
-  target = search needs
+  target = search (needs, s .good .0 .1 .1 .1 .0)
 
   memory : length (s .args .chip .sound .memory) ≡ 10
-  memory = search needs
+  memory = search (needs, s .good .0 .1 .1 .1 .0)
 
 pub field-spec : {M : Type 1} → statement M
 field-spec =
@@ -51,5 +52,5 @@ field-spec =
     (λ c κs. search needs) (λ c. search needs) (λ c. search needs) (λ c κs. search needs)
     (λ c.
     let s = c .before .before .before .before .before .before .before .before .before .before in
-    let e = rw (c .before .device-fields .ensures) at (c .wide4 .ensures) in
-    returned (c .wide4 .ok) (e ∙ device-is _ (sixteen s) (current s) (target s) (memory s) _ (search needs))))
+    let e = rw (c .before .later-numbers .ensures) at (c .wide4 .ensures) in
+    returned (c .wide4 .ok) (e ∙ later-is _ (sixteen s) (current s) (target s) (memory s) _ (search needs))))

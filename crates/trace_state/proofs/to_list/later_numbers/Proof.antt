@@ -1,0 +1,13 @@
+-- `trace_state::to_list::later_numbers` meets its contract. Assumes nothing.
+use borrow.Author.Needs.{needs}
+use Rattle.trace_state.proofs.to_list.later_numbers.Statement.{statement}
+use Rattle.trace_state.proofs.to_list.later_numbers.Tie as tie
+
+returns : tie.Need-returns
+returns c =
+    let k = c .before .before .before in
+    rw (k .kind-number .ensures, k .before .rate .ensures, c .flag .ensures)
+
+pub later-numbers-spec : {M : Type 1} → statement M
+later-numbers-spec =
+    tie.close (tie.spec (λ c κs. search needs) (λ c κs. search needs) (λ c. search needs) (λ c. search needs) (λ c κs. search needs) returns)
