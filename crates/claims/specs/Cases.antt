@@ -29,7 +29,7 @@ walked image a = let w = walkOf pitchBits image a in numbers (w .refusal ∷ w .
 abbrev address : List ℕ → List ℕ → List ℤ
 address image bytes = numbers (afterBytes image powerUp bytes .control .address .position / 8 ∷ [])
 
--- a current number on its way to a target, by the divisors of intervals
+-- a current number on its way to a target, by the divisors of intervals, in a frame that does not hold (02, §3)
 abbrev runs : List ℕ → ℤ → ℤ → List ℤ
 runs [] current target = []
 runs (i ∷ is) current target = let next = towardBy (divisor (intervals i)) current target in next ∷ runs is next target
