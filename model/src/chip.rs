@@ -27,6 +27,8 @@ pub const ZERO_VALUES: Values = Values { energy: 0, pitch: 0, k: [0; 11] };
 /// The fields in the order of the trace format; flags are 0 or 1. Filter
 /// memory 1..10 stands at 1..10 (place 0 is unused and 0). The TMS5220 has no
 /// frame rate; its v and rr are 0 (D 73).
+/// 3: "The chip must remember for the frame whether it holds": `hold`, which
+/// is part of the sound (D 105).
 #[derive(Clone, Copy, PartialEq, Debug)]
 pub struct Chip {
     pub mode: i64,
@@ -49,6 +51,7 @@ pub struct Chip {
     pub device: i64,
     pub v: i64,
     pub rr: i64,
+    pub hold: i64,
 }
 
 /// 01: "Reset gives the power-up state: idle, silent, empty FIFO, position 0,
@@ -77,6 +80,7 @@ pub fn power_up_of(device: i64) -> Chip {
         device,
         v: 0,
         rr: 0,
+        hold: 0,
     };
     put_to_rest(chip)
 }
@@ -90,6 +94,7 @@ pub fn power_up() -> Chip {
 
 /// 01: "puts the sound at rest [..]: counters, currents, targets, filter
 /// memory and pulse place zero; noise register 8191." (D 51)
+/// 3: "at rest it doesn't hold."
 fn with_rest(chip: Chip) -> Chip {
     Chip {
         sample: 0,
@@ -99,6 +104,7 @@ fn with_rest(chip: Chip) -> Chip {
         memory: [0; 11],
         place: 0,
         noise: 8191,
+        hold: 0,
         ..chip
     }
 }
@@ -165,15 +171,17 @@ fn state_holds(chip: &Chip) -> bool {
 }
 
 /// No range of 01, only what the trace format promises of each state:
-/// "mode 0..3; pending, interrupt, sounding, device [..] 0 or 1; 8 bits for
-/// [..] data byte, FIFO bytes". Within the promise this is always true: the interrupt
-/// has no range (D 52), nor has the mode one (D 15).
+/// "mode 0..3; pending, interrupt, sounding, device, hold [..] 0 or 1; 8 bits
+/// for [..] data byte, FIFO bytes". Within the promise this is always true: the
+/// interrupt has no range (D 52), nor has the mode one (D 15), nor, while
+/// sounding, `hold` (D 105).
 fn fields_fit(chip: &Chip) -> bool {
     (0..=3).contains(&chip.mode)
         && (0..=1).contains(&chip.pending)
         && (0..=1).contains(&chip.interrupt)
         && (0..=1).contains(&chip.sounding)
         && (TMS5220..=TMS5220C).contains(&chip.device)
+        && (0..=1).contains(&chip.hold)
         && (0..=255).contains(&chip.data)
         && chip.fifo.iter().all(|byte| (0..=255).contains(byte))
 }
@@ -255,7 +263,7 @@ fn unheld_holds(chip: &Chip) -> bool {
     (0..FIFO_BYTES).all(|i| i < chip.level || chip.fifo[i as usize] == 0)
 }
 
-/// 01: "Not sounding: sound at rest".
+/// 01: "Not sounding: sound at rest". So it doesn't hold (D 105).
 fn silent_rest_holds(chip: &Chip) -> bool {
     chip.sounding == 1 || at_rest(chip)
 }

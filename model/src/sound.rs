@@ -110,12 +110,15 @@ fn sounded(image: &[u8], tables: &Tables, given: Chip) -> Stepped {
         chip = next;
         chip.interval = first_interval(&chip, &frame);
         chip.targets = new_targets(&frame, tables, chip.targets);
+        // The old targets against the new ones, at every taken frame (D 66,
+        // D 105).
+        chip.hold = i64::from(frame_holds(&given.targets, &chip.targets));
         if frame.kind == STOP {
             chip = stop(chip);
         }
     }
     if chip.sample == 0 {
-        chip.currents = interpolated(&chip.currents, &chip.targets, chip.interval);
+        chip.currents = next_currents(&chip);
     }
     let excitation = excitation(&chip, tables);
     chip.place = next_place(&chip);
@@ -201,7 +204,7 @@ fn spent_position(image: &[u8], position: i64) -> i64 {
     end(image)
 }
 
-// ---------------------------------------------------------------- targets, interpolation
+// ---------------------------------------------------------------- targets, holding, interpolation
 
 /// 01: "Targets: [..]"
 fn new_targets(frame: &Frame, tables: &Tables, old: Values) -> Values {
@@ -242,6 +245,43 @@ fn silent_targets(old: Values) -> Values {
     Values { energy: 0, ..old }
 }
 
+/// 3: "when a newly taken frame changes voiced to unvoiced or back, or the old
+/// energy target was 0 and the new one isn't". By the targets' values alone: a
+/// silence and a stop keep the pitch and set energy 0, so they never hold
+/// (D 65), and the first frame is compared with the sound at rest (D 64).
+fn frame_holds(old: &Values, new: &Values) -> bool {
+    changes_voicing(old, new) || begins_from_0(old, new)
+}
+
+/// 3: "changes voiced to unvoiced or back".
+fn changes_voicing(old: &Values, new: &Values) -> bool {
+    is_voiced(old) != is_voiced(new)
+}
+
+/// 3: "the old energy target was 0 and the new one isn't". The value, not the
+/// index (D 64).
+fn begins_from_0(old: &Values, new: &Values) -> bool {
+    old.energy == 0 && new.energy != 0
+}
+
+// 3: "intervals 0 to 6", whichever of them the frame begins with.
+const LAST_HELD: i64 = 6;
+
+/// 3: "the currents stay at their old values in intervals 0 to 6 and reach the
+/// targets in interval 7."
+fn stays(chip: &Chip) -> bool {
+    chip.hold == 1 && chip.interval <= LAST_HELD
+}
+
+/// The currents after an interval's first sample. In interval 7 d is 1, so
+/// that they reach the targets whether the frame holds or not.
+fn next_currents(chip: &Chip) -> Values {
+    if stays(chip) {
+        return chip.currents;
+    }
+    interpolated(&chip.currents, &chip.targets, chip.interval)
+}
+
 // 01: "d = 8,8,8,4,4,2,2,1", for intervals 0 to 7.
 const DIVISORS: [i64; 8] = [8, 8, 8, 4, 4, 2, 2, 1];
 
@@ -270,15 +310,16 @@ fn interpolated(currents: &Values, targets: &Values, interval: i64) -> Values {
 // ---------------------------------------------------------------- excitation
 
 /// 01: "Voiced means target pitch not 0."
-fn is_voiced(chip: &Chip) -> bool {
-    chip.targets.pitch != 0
+fn is_voiced(targets: &Values) -> bool {
+    targets.pitch != 0
 }
 
 /// 01: "Excitation: voiced, the pulse table at the pulse place, 0 past its
 /// end; unvoiced, -64 if the noise register is odd, else 64." Both as they
-/// were before this sample moves them (D 42).
+/// were before this sample moves them (D 42). By the target also while the
+/// frame holds (D 104).
 fn excitation(chip: &Chip, tables: &Tables) -> i64 {
-    if is_voiced(chip) {
+    if is_voiced(&chip.targets) {
         return tables.pulse(chip.place);
     }
     if chip.noise.rem_euclid(2) == 1 {

@@ -1,6 +1,6 @@
 //! Tests: document 01's "Numbers to try", sizes at their bounds, each refusal
-//! number, the order of checks, the traps, the TMS5220C, look and acknowledge,
-//! the trace format, garbage.
+//! number, the order of checks, the traps, the TMS5220C, frames that hold, look
+//! and acknowledge, the trace format, garbage.
 
 use crate::chip::*;
 use crate::frame::*;
@@ -189,6 +189,7 @@ impl Dice {
             }
             chip.noise = self.within(1, 8191);
             chip.place = self.within(0, 1022);
+            chip.hold = self.within(0, 1);
             chip.currents = self.values();
             chip.targets = self.values();
             for i in 1..=10 {
@@ -578,7 +579,15 @@ fn state_ranges() {
             check("unheld byte", chip, if (i as i64) < level { TAKEN } else { STATE });
         }
     }
+    // While sounding `hold` has no range; what is no flag is none.
+    for base in [sounding, external_speech, Chip { mode: ROM, ..sounding }, Chip { mode: WAITING, ..sounding }] {
+        for device in [TMS5220, TMS5220C] {
+            range("hold", Chip { device, ..base }, &|c, v| c.hold = v, 0, 1);
+        }
+    }
     // Not sounding: sound at rest, no speaking mode.
+    range("silent hold", power_up(), &|c, v| c.hold = v, 0, 0);
+    range("silent hold in waiting", Chip { mode: WAITING, level: 2, ..power_up() }, &|c, v| c.hold = v, 0, 0);
     range("silent noise", power_up(), &|c, v| c.noise = v, 8191, 8191);
     range("silent place", power_up(), &|c, v| c.place = v, 0, 0);
     range("silent sample", power_up(), &|c, v| c.sample = v, 0, 0);
@@ -804,10 +813,12 @@ fn ts_rising_starts_from_rest() {
     old.interval = 3;
     old.noise = 55;
     old.place = 66;
+    old.hold = 1;
     let waiting = writes(&image, old, &[0x60]);
     assert_eq!(waiting, Chip { mode: WAITING, ..old });
     let eight = writes(&image, waiting, &[1, 2, 3, 4, 5, 6, 7, 8]);
     assert_eq!((eight.sample, eight.noise, eight.mode, eight.level), (7, 55, WAITING, 8));
+    assert_eq!(eight.hold, 1);
     let nine = writes(&image, eight, &[9]);
     let mut expected = Chip { mode: EXTERNAL, level: 9, ..rest };
     for i in 0..9 {
@@ -850,6 +861,7 @@ fn boundary_in_waiting_keeps_the_fifo() {
     chip.sounding = 1;
     chip.noise = 5;
     chip.targets.energy = 9;
+    chip.hold = 1;
     let stepped = taken(&[0], chip);
     assert_eq!(stepped.chip, external(&[0xFF, 0xFE]));
     assert_eq!((stepped.report, stepped.sample), (NOTHING, 0));
@@ -859,7 +871,7 @@ fn boundary_in_waiting_keeps_the_fifo() {
 fn rom_runs_out() {
     // Inside a frame, after three bits, and before the first bit.
     for (position, image) in [(4, vec![0x01]), (5, vec![0x00]), (8, vec![0x00]), (0, vec![0x10])] {
-        let chip = Chip { mode: ROM, sounding: 1, position, noise: 3, ..power_up() };
+        let chip = Chip { mode: ROM, sounding: 1, position, noise: 3, hold: 1, ..power_up() };
         let stepped = taken(&image, chip);
         assert_eq!((stepped.report, stepped.sample, stepped.frame), (RAN_OUT, 0, NO_FRAME));
         assert_eq!(stepped.chip, Chip { position: 8, interrupt: 1, ..power_up() });
@@ -905,6 +917,7 @@ fn fifo_ends() {
     // They end exactly with a frame other than a stop: silence, repeat.
     runs_out(speech(&[0xF0], 4));
     runs_out(speech(&[0xFE, 0x2A], 5));
+    runs_out(Chip { hold: 1, ..speech(&[0xFE, 0x2A], 5) });
     // One bit more, and the silence is a frame.
     let stepped = taken(&[0], speech(&[0xE0], 3));
     assert_eq!((stepped.report, stepped.chip.level, stepped.chip.used), (FRAME, 1, 7));
@@ -1096,9 +1109,19 @@ fn filter_is_held() {
     assert_eq!(stepped.chip.memory[1..=3], [4096, 8191, 0]);
 }
 
+/// A current after an interval's first sample, by 3 and 01.
+fn next_current(hold: bool, current: i64, target: i64, interval: i64) -> i64 {
+    match (hold, interval) {
+        (true, 0..=6) => current,
+        (true, _) => target,
+        _ => nearer(current, target, interval),
+    }
+}
+
 #[test]
 fn interpolation_in_steps() {
-    // Silence frames after a voiced frame: pitch and K go on to their targets.
+    // A silence after a voiced frame: pitch and K stay at their targets. The
+    // voiced frame is the first and holds, the silence doesn't.
     let image = bits("1110 0 000101 00001 00010 0011 0100 0101 0110 0111 001 010 011 0000 1111");
     let mut chip = writes(&image, power_up(), &[0x50]);
     let mut expected = 0;
@@ -1107,7 +1130,7 @@ fn interpolation_in_steps() {
         chip = stepped.chip;
         let (frame, interval) = (number / 200, number / 25 % 8);
         if number % 25 == 0 {
-            expected = nearer(expected, [980, 0][frame as usize], interval);
+            expected = next_current(frame == 0, expected, [980, 0][frame as usize], interval);
         }
         assert_eq!(chip.currents.energy, expected, "sample {number}");
         assert_eq!(stepped.report, if number % 200 == 0 { FRAME } else { NOTHING });
@@ -1264,7 +1287,8 @@ fn short_frames_skip_the_first_intervals() {
                 chip = stepped.chip;
                 let (frame, interval) = (number / length, number % length / 25 + 2 * rate);
                 if number % 25 == 0 {
-                    expected = nearer(expected, [980, 0, 0][frame as usize], interval);
+                    // The first frame holds, silence and stop don't.
+                    expected = next_current(frame == 0, expected, [980, 0, 0][frame as usize], interval);
                 }
                 assert_eq!(chip.currents.energy, expected, "rate {rate}, sample {number}");
                 let report = [FRAME, FRAME, STOPPED][frame as usize];
@@ -1299,6 +1323,263 @@ fn fifo_with_rate_bits() {
     // A stop that ends the FIFO is a stop.
     let stepped = taken(&[0], speech_c(&[0xFF], 2));
     assert_eq!((stepped.report, stepped.frame.rate), (STOPPED, 3));
+}
+
+// ---------------------------------------------------------------- frames that hold
+
+// Indexes 5 of energy and pitch, and index 3 of energy, whose value is 0 in
+// `voice_with_0`.
+const VOICED_FRAME: &str = "0101 0 000101 00001 00010 0011 0100 0101 0110 0111 001 010 011";
+const UNVOICED_FRAME: &str = "0101 0 000000 10001 00001 1001 0110";
+const QUIET_VOICED: &str = "0011 0 000101 00001 00010 0011 0100 0101 0110 0111 001 010 011";
+const QUIET_UNVOICED: &str = "0011 0 000000 10001 00001 1001 0110";
+const VOICED_REPEAT: &str = "0101 1 000101";
+const UNVOICED_REPEAT: &str = "0101 1 000000";
+const QUIET_REPEAT: &str = "0011 1 000101";
+
+/// The file `voice` with 0 as the energy of index 3.
+fn voice_with_0() -> Vec<u8> {
+    with(&voice(41), 3 + 2 * 3, &[0, 0])
+}
+
+fn step_with_0(image: &[u8], chip: Chip) -> Stepped {
+    let stepped = step(image, &voice_with_0(), chip);
+    assert_eq!(stepped.refusal, TAKEN);
+    stepped
+}
+
+/// The flags of these frames, one after another, from the first on.
+fn flags(frames: &[&str]) -> Vec<i64> {
+    let image = bits(&frames.concat());
+    let mut chip = writes(&image, power_up(), &[0x50]);
+    let mut flags = Vec::new();
+    for _ in frames {
+        chip = step_with_0(&image, chip).chip;
+        flags.push(chip.hold);
+        for _ in 1..200 {
+            chip = step_with_0(&image, chip).chip;
+            // Each of the frame's samples has the frame's flag.
+            assert_eq!(chip.hold, flags[flags.len() - 1]);
+        }
+    }
+    flags
+}
+
+#[test]
+fn frames_that_hold() {
+    // The first frame after the sound starts is compared with rest.
+    for (frame, flag) in [
+        (VOICED_FRAME, 1),
+        (UNVOICED_FRAME, 1),
+        (VOICED_REPEAT, 1),
+        (UNVOICED_REPEAT, 1),
+        // Energy stays 0: the pitch decides.
+        (QUIET_VOICED, 1),
+        (QUIET_REPEAT, 1),
+        (QUIET_UNVOICED, 0),
+        ("0000", 0),
+        ("1111", 0),
+    ] {
+        assert_eq!(flags(&[frame]), [flag], "{frame}");
+    }
+    // Voiced to unvoiced and back, and neither of them.
+    assert_eq!(flags(&[VOICED_FRAME, UNVOICED_FRAME, VOICED_FRAME]), [1, 1, 1]);
+    assert_eq!(flags(&[VOICED_FRAME, VOICED_FRAME, VOICED_FRAME]), [1, 0, 0]);
+    assert_eq!(flags(&[UNVOICED_FRAME, UNVOICED_FRAME, UNVOICED_FRAME]), [1, 0, 0]);
+    // By a repeat with and without pitch too.
+    assert_eq!(flags(&[VOICED_FRAME, UNVOICED_REPEAT, VOICED_REPEAT, VOICED_REPEAT]), [1, 1, 1, 0]);
+    assert_eq!(flags(&[UNVOICED_FRAME, UNVOICED_REPEAT, VOICED_FRAME, VOICED_REPEAT]), [1, 0, 1, 0]);
+    // Energy from 0, by a silence before it and by a value of 0.
+    assert_eq!(flags(&[VOICED_FRAME, "0000", VOICED_FRAME]), [1, 0, 1]);
+    assert_eq!(flags(&[VOICED_FRAME, "0000", "0000", VOICED_REPEAT]), [1, 0, 0, 1]);
+    assert_eq!(flags(&[UNVOICED_FRAME, "0000", UNVOICED_FRAME]), [1, 0, 1]);
+    assert_eq!(flags(&[VOICED_FRAME, QUIET_VOICED, VOICED_FRAME]), [1, 0, 1]);
+    assert_eq!(flags(&[VOICED_FRAME, QUIET_REPEAT, QUIET_VOICED, "0000", QUIET_REPEAT]), [1, 0, 0, 0, 0]);
+    // A silence keeps the pitch, so the frame behind it is compared with it:
+    // 0 to 0, and another voicing.
+    assert_eq!(flags(&[VOICED_FRAME, "0000", QUIET_UNVOICED, QUIET_VOICED]), [1, 0, 1, 1]);
+    // Silence and stop never hold, whatever was before them.
+    assert_eq!(flags(&[VOICED_FRAME, UNVOICED_FRAME, "0000", "1111"]), [1, 1, 0, 0]);
+    assert_eq!(flags(&[VOICED_FRAME, UNVOICED_FRAME, "1111"]), [1, 1, 0]);
+}
+
+/// A chip before a frame with these targets' energy and pitch, all else any.
+fn before_frame(dice: &mut Dice, energy: i64, pitch: i64) -> Chip {
+    let mut chip = Chip { mode: ROM, sounding: 1, hold: dice.within(0, 1), ..power_up() };
+    chip.currents = dice.values();
+    chip.targets = Values { energy, pitch, ..dice.values() };
+    chip
+}
+
+#[test]
+fn targets_decide() {
+    // Neither the currents nor the flag before matter, nor by how much the
+    // targets change.
+    let mut dice = Dice(3);
+    for _ in 0..200 {
+        for (energy, pitch, frame, flag) in [
+            (1, 1, VOICED_FRAME, 0),
+            (1023, 1023, VOICED_FRAME, 0),
+            (350, 80, VOICED_FRAME, 0),
+            (1, 0, VOICED_FRAME, 1),
+            (0, 1, VOICED_FRAME, 1),
+            (0, 0, VOICED_FRAME, 1),
+            (1, 0, UNVOICED_FRAME, 0),
+            (1, 1, UNVOICED_FRAME, 1),
+            (0, 0, UNVOICED_FRAME, 1),
+            (0, 1, QUIET_VOICED, 0),
+            (1023, 1, QUIET_VOICED, 0),
+            (1023, 0, QUIET_VOICED, 1),
+            (0, 0, QUIET_UNVOICED, 0),
+            (0, 1, QUIET_UNVOICED, 1),
+            (1, 1, VOICED_REPEAT, 0),
+            (0, 1, VOICED_REPEAT, 1),
+            (1, 0, VOICED_REPEAT, 1),
+            (1, 1, UNVOICED_REPEAT, 1),
+            (1, 0, UNVOICED_REPEAT, 0),
+            (0, 0, "0000", 0),
+            (9, 9, "0000", 0),
+            (0, 9, "1111", 0),
+            (9, 0, "1111", 0),
+        ] {
+            let image = bits(frame);
+            let chip = before_frame(&mut dice, energy, pitch);
+            assert_eq!(step_with_0(&image, chip).chip.hold, flag, "{energy} {pitch} {frame}");
+        }
+    }
+}
+
+#[test]
+fn currents_stay_and_reach_the_targets() {
+    let mut dice = Dice(33);
+    for frame in [VOICED_FRAME, UNVOICED_FRAME, VOICED_REPEAT, UNVOICED_REPEAT] {
+        for (rate, v) in [(0, 0), (1, 0), (2, 0), (3, 0), (0, 1), (1, 1), (2, 1), (3, 1)] {
+            let prefix = if v == 1 { format!("{rate:02b}") } else { String::new() };
+            let image = bits(&format!("{prefix} {frame} {prefix} 0000"));
+            let rr = if v == 1 { 3 - rate } else { rate };
+            let chip = before_frame(&mut dice, 0, 7);
+            let old = chip.currents;
+            let mut chip = Chip { device: TMS5220C, v, rr, ..chip };
+            for number in 0..200 - 50 * rate {
+                let stepped = taken(&image, chip);
+                assert_eq!(stepped.report, if number == 0 { FRAME } else { NOTHING });
+                let interval = 2 * rate + number / 25;
+                chip = stepped.chip;
+                assert_eq!(chip.hold, 1);
+                assert_eq!(chip.currents, if interval < 7 { old } else { chip.targets }, "{frame}, {rate}, {number}");
+            }
+            // The silence behind it is interpolated from there.
+            let reached = chip.currents;
+            let silent = taken(&image, chip).chip;
+            assert_eq!(silent.hold, 0);
+            assert_eq!(silent.currents, Values { energy: nearer(reached.energy, 0, 2 * rate), ..reached });
+        }
+    }
+}
+
+#[test]
+fn held_samples_by_hand() {
+    // Voiced to unvoiced: the noise with the old energy, at the old pitch's
+    // pace, through the old K.
+    let mut chip = Chip { mode: ROM, sounding: 1, ..power_up() };
+    chip.currents = Values { energy: 64, pitch: 2, k: [0, 256, 0, 0, 0, 0, 0, 0, 0, 0, 0] };
+    chip.targets = Values { energy: 640, pitch: 2, k: [0; 11] };
+    let image = bits(UNVOICED_FRAME);
+    let first = taken(&image, chip);
+    assert_eq!((first.sample, first.chip.hold), (-64, 1));
+    assert_eq!((first.chip.place, first.chip.noise), (1, 8190));
+    // Forward 1 = 64 - floor(256 × -64 / 512).
+    let second = taken(&image, first.chip);
+    assert_eq!((second.sample, second.chip.place, second.chip.noise), (96, 0, 8189));
+    assert_eq!(second.chip.memory[1..=3], [96, -64 + 48, -32]);
+    // Unvoiced to voiced: the pulses, at a current pitch of 0.
+    chip.currents.pitch = 0;
+    chip.targets.pitch = 0;
+    let image = bits(VOICED_FRAME);
+    let first = taken(&image, chip);
+    assert_eq!((first.sample, first.chip.hold, first.chip.place), (100, 1, 0));
+    // In interval 7 all of the frame: energy 350, pitch 80, K1 -494.
+    let last = taken(&image, steps(&image, first.chip, 174)).chip;
+    assert_eq!((last.interval, last.sample), (7, 1));
+    assert_eq!((last.currents.energy, last.currents.pitch, last.currents.k[1]), (350, 80, -494));
+    assert_eq!(last.place, 1);
+}
+
+#[test]
+fn states_that_hold() {
+    // A sound that is there goes on by its flag, in each mode and from each
+    // interval.
+    let mut dice = Dice(333);
+    for mode in [IDLE, ROM, WAITING, EXTERNAL] {
+        for interval in 1..8 {
+            for hold in [0, 1] {
+                let mut chip = Chip { mode, interval, sounding: 1, hold, ..power_up() };
+                chip.level = i64::from(mode == EXTERNAL);
+                chip.currents = dice.values();
+                chip.targets = dice.values();
+                let next = taken(&[0], chip).chip;
+                let energy = next_current(hold == 1, chip.currents.energy, chip.targets.energy, interval);
+                let k = next_current(hold == 1, chip.currents.k[10], chip.targets.k[10], interval);
+                assert_eq!((next.currents.energy, next.currents.k[10]), (energy, k));
+                assert_eq!(next.hold, hold);
+                // At any other sample nothing is interpolated.
+                let later = taken(&[0], Chip { sample: 1, ..chip }).chip;
+                assert_eq!((later.currents, later.hold), (chip.currents, hold));
+            }
+        }
+    }
+}
+
+#[test]
+fn rest_does_not_hold() {
+    let image = bits(&[VOICED_FRAME, "1111"].concat());
+    let holding = taken(&image, writes(&image, power_up(), &[0x50])).chip;
+    assert_eq!((holding.hold, holding.mode), (1, ROM));
+    // Reset, in the middle of a frame that holds, and a read that changes
+    // nothing.
+    assert_eq!(writes(&image, holding, &[0x70]), power_up());
+    assert_eq!(read(holding).chip, holding);
+    // Running out, of ROM and of the FIFO.
+    let boundary = steps(&image, holding, 199);
+    assert_eq!((boundary.hold, boundary.sample, boundary.interval), (1, 0, 0));
+    let out = taken(&image[..6], boundary);
+    assert_eq!((out.report, out.chip.hold, out.chip.sounding), (RAN_OUT, 0, 0));
+    assert_eq!(taken(&[0], Chip { hold: 1, ..speech(&[0], 4) }).chip, Chip { interrupt: 1, ..power_up() });
+    // The stop's frame doesn't hold, and a state in it that does is at rest
+    // after it.
+    let stopped = taken(&image, boundary).chip;
+    assert_eq!((stopped.hold, stopped.mode, stopped.sounding), (0, IDLE, 1));
+    let end = steps(&image, Chip { hold: 1, ..stopped }, 199);
+    assert_eq!((end.hold, end.sounding), (1, 1));
+    assert_eq!(taken(&image, end).chip, Chip { position: 54, interrupt: 1, ..power_up() });
+    // A silent chip that would hold breaks a range.
+    assert_eq!(state_refusal(&Chip { hold: 1, ..power_up() }), STATE);
+    assert_eq!(state_refusal(&Chip { hold: 1, ..power_up_of(TMS5220C) }), STATE);
+}
+
+/// What a step did to the flag and the currents, told from the chips before
+/// and after it.
+fn held_by_rule(before: &Chip, stepped: &Stepped) {
+    let after = &stepped.chip;
+    if after.sounding == 0 {
+        assert_eq!(after.hold, 0);
+        return;
+    }
+    let (old, new) = (before.targets, after.targets);
+    if stepped.frame == NO_FRAME {
+        assert_eq!((after.hold, new), (before.hold, old));
+    } else {
+        let voicing = (old.pitch == 0) != (new.pitch == 0);
+        let energy = old.energy == 0 && new.energy > 0;
+        assert_eq!(after.hold, i64::from(voicing || energy));
+        assert!(after.hold == 0 || stepped.frame.kind != SILENCE && stepped.frame.kind != STOP);
+    }
+    // A step that ends an interval has counted on; its interval is not told
+    // by the chip after it.
+    if after.sample > 0 && after.hold == 1 {
+        let reached = before.sample == 0 && after.interval == 7;
+        assert_eq!(after.currents, if reached { new } else { before.currents });
+    }
 }
 
 // ---------------------------------------------------------------- look and acknowledge
@@ -1427,6 +1708,7 @@ fn laws_over_valid_states() {
             assert_eq!(stepped.sample, element);
             assert!((-512..=511).contains(&element));
             stepwise = stepped.chip;
+            held_by_rule(&before, &stepped);
             let fell = speaking(before.mode) && !speaking(stepwise.mode);
             assert_eq!(fell, stepped.report == STOPPED || stepped.report == RAN_OUT);
             assert!(!fell || stepwise.interrupt == 1);
@@ -1584,8 +1866,8 @@ fn trace_runs() {
 
 #[test]
 fn trace_states() {
-    // All 66 numbers come back as they are, and in their places.
-    let numbers: Vec<i64> = (1..=66).collect();
+    // All 67 numbers come back as they are, and in their places.
+    let numbers: Vec<i64> = (1..=67).collect();
     let line = format!("C{}\n", numbers.iter().map(|number| format!(" {number}")).collect::<String>());
     assert_eq!(played(&state_record(&numbers)), line);
     let mut array = [0; CHIP_NUMBERS];
@@ -1596,12 +1878,12 @@ fn trace_states() {
     assert_eq!((chip.currents.energy, chip.currents.k[1], chip.currents.k[10]), (30, 32, 41));
     assert_eq!((chip.targets.energy, chip.targets.k[1], chip.targets.k[10]), (42, 44, 53));
     assert_eq!((chip.memory[1], chip.memory[10]), (54, 63));
-    assert_eq!((chip.device, chip.v, chip.rr), (64, 65, 66));
-    // A TMS5220 has no rate.
-    array[63..].copy_from_slice(&[TMS5220, 1, 3]);
-    assert_eq!(numbers_of(&chip_of(&array))[63..], [TMS5220, 0, 0]);
+    assert_eq!((chip.device, chip.v, chip.rr, chip.hold), (64, 65, 66, 67));
+    // A TMS5220 has no rate, but it holds.
+    array[63..].copy_from_slice(&[TMS5220, 1, 3, 1]);
+    assert_eq!(numbers_of(&chip_of(&array))[63..], [TMS5220, 0, 0, 1]);
     array[63] = TMS5220C;
-    assert_eq!(numbers_of(&chip_of(&array))[63..], [TMS5220C, 1, 3]);
+    assert_eq!(numbers_of(&chip_of(&array))[63..], [TMS5220C, 1, 3, 1]);
     // Levels of 17 and 255 beside 16 bytes: refused, printed as given.
     for level in [17, 255] {
         let mut numbers = numbers_of(&speech(&[1; 16], 0));
@@ -1637,7 +1919,7 @@ fn bad_scripts() {
     assert_eq!(played(b"U\xFF\xFF\xFF\xFF"), "bad script\n");
     assert_eq!(played(b"V\0\0\0\0\nP"), "V 5\nbad script\n");
     let state = state_record(&[0; CHIP_NUMBERS]);
-    assert_eq!(state.len(), 529);
+    assert_eq!(state.len(), 537);
     for cut in 1..state.len() {
         assert_eq!(played(&state[..cut]), "bad script\n");
     }
@@ -1692,7 +1974,7 @@ fn garbage() {
                 b'S' => {
                     let mut numbers = numbers_of(&dice.chip(10));
                     if dice.below(2) == 0 {
-                        let at = dice.below(66) as usize;
+                        let at = dice.below(CHIP_NUMBERS as u64) as usize;
                         numbers[at] = match dice.below(3) {
                             0 => dice.next() as i64,
                             1 => dice.within(-32_768, 32_767),

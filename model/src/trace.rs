@@ -15,8 +15,8 @@ pub const MOST_SCRIPT_BYTES: usize = 1_048_576;
 const LONGEST_RUN: i64 = 8_192;
 // trace: "each 9,999 before the call".
 const UNTOUCHED: i64 = 9_999;
-// trace: "`S` | as many i64 as `C` has numbers"; "529 [bytes] from §5 on".
-pub const CHIP_NUMBERS: usize = 66;
+// trace: "`S` | as many i64 as `C` has numbers"; "537 [bytes] from §3 on".
+pub const CHIP_NUMBERS: usize = 67;
 
 /// What is left of the script.
 struct Script<'a> {
@@ -296,7 +296,7 @@ fn frame_text(frame: &Frame) -> String {
     numbers_text(&numbers)
 }
 
-/// The chip's 66 numbers, in the order of the trace format's table.
+/// The chip's 67 numbers, in the order of the trace format's table.
 pub fn numbers_of(chip: &Chip) -> Vec<i64> {
     let mut numbers = vec![
         chip.mode,
@@ -315,11 +315,11 @@ pub fn numbers_of(chip: &Chip) -> Vec<i64> {
     numbers.extend([chip.targets.energy, chip.targets.pitch]);
     numbers.extend(&chip.targets.k[1..=10]);
     numbers.extend(&chip.memory[1..=10]);
-    numbers.extend([chip.device, chip.v, chip.rr]);
+    numbers.extend([chip.device, chip.v, chip.rr, chip.hold]);
     numbers
 }
 
-/// The chip with these 66 numbers; `No. n` of the table stands at n - 1.
+/// The chip with these 67 numbers; `No. n` of the table stands at n - 1.
 pub fn chip_of(numbers: &[i64; CHIP_NUMBERS]) -> Chip {
     let no = |n: usize| numbers[n - 1];
     let mut fifo = [0; 16];
@@ -347,6 +347,7 @@ pub fn chip_of(numbers: &[i64; CHIP_NUMBERS]) -> Chip {
         device: no(64),
         v: rate_number(no(64), no(65)),
         rr: rate_number(no(64), no(66)),
+        hold: no(67),
     }
 }
 
