@@ -67,6 +67,18 @@ def any_rated_phrase(pick, most):
     return pack(any_rated_frames(pick, pick.below(most + 1)) + rated(pick.below(4), STOP), pick.one_of('01'))
 
 
+def any_changing_frames(pick, count, rated_ones):
+    """Random frames that turn from voiced to unvoiced or back, or from silence to speech, oftener than not."""
+    text = ''
+    for _ in range(count):
+        energy, pitch = pick.between(1, 14), pick.between(1, 63)
+        ks = [pick.edge(0, 2 ** width - 1) for width in K_BITS]
+        kinds = [SILENCE, repeat(energy, pitch), repeat(energy, 0), unvoiced(energy, ks[:4]), voiced(energy, pitch, ks)]
+        frame = pick.one_of(kinds + kinds[2:])
+        text += rated(pick.below(4), frame) if rated_ones else frame
+    return text
+
+
 def damaged(pick, data):
     """The same bytes cut short, or with a bit turned, or both."""
     data = bytearray(data)

@@ -3,7 +3,7 @@ import struct
 
 MOST_SCRIPT_BYTES = 1048576
 LONGEST_RUN = 8192
-CHIP_NUMBERS = 66
+CHIP_NUMBERS = 67
 
 
 # ---- one function for each letter; what it returns is the record's bytes

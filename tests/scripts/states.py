@@ -1,4 +1,4 @@
-"""States of the chip for S records: valid ones, and ones that break a range (document 01, "State ranges", and 02, §5)."""
+"""States of the chip for S records: valid ones, and ones that break a range (01, "State ranges", and 02, §5 and §3)."""
 
 IDLE, ROM, WAITING, EXTERNAL = range(4)
 TMS5220, TMS5220C = range(2)
@@ -17,7 +17,7 @@ MEMORY = [f'memory {i}' for i in range(1, 11)]
 SOUND = ['sample', 'interval', 'noise', 'place'] + CURRENT + TARGET + MEMORY
 # the order of the trace format's table
 OF_01 = ['mode', 'position', 'nibble', 'pending', 'data', 'interrupt', 'level', 'used'] + FIFO + ['sounding'] + SOUND
-FIELDS = OF_01 + ['device', 'v', 'rr']
+FIELDS = OF_01 + ['device', 'v', 'rr', 'hold']
 
 # the ranges that hold in every mode
 RANGES = {'position': (0, LAST_POSITION), 'nibble': (0, 4), 'sample': (0, 24), 'interval': (0, 7), 'noise': (1, 8191),
@@ -33,14 +33,14 @@ RATES = {'v': (0, 1), 'rr': (0, 3)}
 FORMAT = {name: (0, 32767) for name in ['noise', 'place'] + CURRENT + TARGET}
 FORMAT.update({name: (-32768, 32767) for name in CURRENT[2:] + TARGET[2:] + MEMORY})
 FORMAT.update({name: (0, 255) for name in ['nibble', 'data', 'level', 'used', 'sample', 'interval', 'v', 'rr'] + FIFO})
-FORMAT.update({name: (0, 1) for name in ['pending', 'interrupt', 'sounding', 'device']})
+FORMAT.update({name: (0, 1) for name in ['pending', 'interrupt', 'sounding', 'device', 'hold']})
 FORMAT.update({'mode': (0, 3), 'position': (0, 2 ** 32 - 1)})
 
 LEVELS = {IDLE: (0, 0), ROM: (0, 0), WAITING: (0, 8), EXTERNAL: (1, FIFO_BYTES)}
 
 
 def numbers(fields):
-    """The 66 numbers of a state."""
+    """The 67 numbers of a state."""
     assert all(FORMAT[name][0] <= fields[name] <= FORMAT[name][1] for name in FIELDS), fields
     assert fields['device'] == TMS5220C or fields['v'] == fields['rr'] == 0, fields
     return [fields[name] for name in FIELDS]
@@ -135,6 +135,18 @@ def rate_edges():
         yield in_mode(ROM, device=TMS5220C, v=v, rr=rr)
 
 
+def hold_edges():
+    """A chip that does not sound and holds, which is not at rest, in each mode that does not speak; a sounding one may hold in
+    every mode, in the middle of a frame and before its first."""
+    for mode in (IDLE, WAITING):
+        for device in (TMS5220, TMS5220C):
+            yield powered_up(mode=mode, device=device, hold=1)
+    for mode in (IDLE, ROM, WAITING, EXTERNAL):
+        fifo = held(1) if mode == EXTERNAL else {}
+        yield in_mode(mode, device=mode % 2, hold=1)
+        yield powered_up(mode=mode, device=1 - mode % 2, sounding=1, hold=1, **fifo)
+
+
 # ---- random states
 
 def any_sound(pick):
@@ -183,3 +195,15 @@ def any_broken_rates(pick):
     v = pick.one_of([0, 1, 2, 255, pick.between(2, 255)])
     rr = pick.one_of([0, 3, 4, 255, pick.between(4, 255)])
     return {'device': TMS5220C, 'v': v, 'rr': rr}
+
+
+def any_held_sound(pick):
+    """A sound whose frame holds or not, often between silence and speech, noise and pulses, and before a frame's first sample
+    or at the ends of an interval."""
+    fields = {**any_sound(pick), 'hold': pick.below(2)}
+    for name in CURRENT[:2] + TARGET[:2]:
+        if pick.chance(40):
+            fields[name] = 0
+    if pick.chance(70):
+        fields.update({'sample': pick.one_of([0, 0, 24]), 'interval': pick.one_of([0, 0, 7, pick.below(8)])})
+    return fields

@@ -255,7 +255,7 @@ def on_tms5220c(pick, script):
             record = power_up_c() + (write(rate_byte(pick)) if pick.chance(70) else b'')
         elif letter == b'S':
             rates = states.any_broken_rates(pick) if pick.chance(8) else states.any_rates(pick)
-            record = with_rates(record, rates)
+            record = with_fields(record, **rates)
         elif letter == b'F':
             record = b'G' + bytes([any_v(pick)]) + record[1:]
         elif letter == b'A':
@@ -264,8 +264,12 @@ def on_tms5220c(pick, script):
     return out
 
 
-def with_rates(record, rates):
-    return record[:-24] + struct.pack('<3q', rates['device'], rates['v'], rates['rr'])
+def with_fields(record, **fields):
+    """An S record with these fields changed."""
+    for name, value in fields.items():
+        at = 1 + 8 * states.FIELDS.index(name)
+        record = record[:at] + struct.pack('<q', value) + record[at + 8:]
+    return record
 
 
 # Any of the themes above on the TMS5220C. Their images have no rate bits; with v = 1 other frames are read from them.
@@ -442,13 +446,104 @@ def looks_at_interrupts(pick):
 OF_LOOKS = [looks_in_themes, looks_at_states, looks_at_data, looks_at_interrupts]
 
 
+# ---- frames that hold
+
+def changing_speech(pick, v, most):
+    """Frames that hold oftener than not, with rate bits if v is 1, most often with a stop behind them."""
+    text = images.any_changing_frames(pick, pick.between(1, most), v == 1)
+    if pick.chance(70):
+        text += images.rated(pick.below(4), images.STOP) if v else images.STOP
+    return text
+
+
+def any_device(pick):
+    """v, and a powered-up chip: a TMS5220, or a TMS5220C at any rate."""
+    v, rr = pick.below(2), pick.below(4)
+    if pick.chance(40):
+        return 0, power_up()
+    return v, power_up_c() + set_rate(pick, v, rr)
+
+
+def hushed_voice(pick):
+    return voice(pick.one_of([voices.hushed(), voices.any_voice(pick)]))
+
+
+def with_holds(pick, script):
+    """The same records, in whose states the frame holds at times; a chip that does not sound then breaks a range."""
+    out = b''
+    for start, end, letter, _ in records(script):
+        record = script[start:end]
+        if letter == b'S' and pick.chance(60):
+            record = with_fields(record, hold=1)
+        out += record
+    return out
+
+
+# Any of the themes above with states that hold.
+def holds_in_themes(pick):
+    return with_holds(pick, pick.one_of(OF_01 + OF_RATES + OF_LOOKS)(pick))
+
+
+# Frames that change, spoken from ROM, interval by interval at times.
+def changing_rom_speech(pick):
+    v, up = any_device(pick)
+    text = changing_speech(pick, v, 8)
+    out = image(images.pack(text)) + hushed_voice(pick) + up + write(SPEAK)
+    if pick.chance(30):
+        out += (step() + run(24)) * pick.between(4, 24)
+    return out + step() + rated_calls(pick, 12) + pick.one_of([b'', run(900), write(RESET) + step()])
+
+
+# The same from the FIFO, fed too fast or too slow.
+def changing_external_speech(pick):
+    v, up = any_device(pick)
+    often, most = pick.one_of([(2, 10), (15, 200), (40, 80)])
+    out = good_image(pick) + hushed_voice(pick) + up + write(SPEAK_EXTERNAL)
+    for byte in images.pack(changing_speech(pick, v, 7)) + pick.bytes(pick.below(9)):
+        out += write(byte)
+        if pick.chance(often):
+            out += pick.one_of([step(), run(pick.below(most + 1))])
+    return out + rated_calls(pick, 6) + pick.one_of([b'', run(1500)])
+
+
+# States in every mode whose frame holds or not, before frames that change and commands; not sounding, holding is out of range.
+def hold_states(pick):
+    v = pick.below(2)
+    data = images.pack(changing_speech(pick, v, 5))
+    out = image(data) + hushed_voice(pick)
+    for _ in range(pick.between(1, 4)):
+        fields = states.any_valid(pick, (0, 8 * len(data)))
+        if fields['sounding']:
+            fields.update(states.any_held_sound(pick))
+        elif pick.chance(40):
+            fields['hold'] = 1
+        if v or pick.chance(50):
+            fields.update({**states.any_rates(pick), 'v': v})
+        command = pick.one_of([SPEAK_EXTERNAL, SPEAK, RESET, READ_BYTE, rate_byte(pick)])
+        calls = [step(2), step() + run(24) + step(), run(pick.one_of(RATED_LENGTHS)), any_looks(pick, 3)]
+        calls += [calls[0], calls[1], write(command) + step()]
+        out += state_of(fields) + pick.one_of(calls) + rated_calls(pick, 4)
+    return out
+
+
+# Long runs over many frames that change.
+def long_changing_runs(pick):
+    v, up = any_device(pick)
+    text = changing_speech(pick, v, 60)
+    out = image(images.pack(text)) + hushed_voice(pick) + up + write(SPEAK)
+    return out + run(pick.one_of([LONGEST_RUN, pick.below(LONGEST_RUN + 1), 4000])) + read()
+
+
+OF_HOLDS = [holds_in_themes, changing_rom_speech, changing_external_speech, hold_states, long_changing_runs]
+
+
 def weighed(of, often):
     """A list of themes of the length of the first one; the theme that stands for many comes oftener."""
     return of + [often] * (len(OF_01) - len(of))
 
 
-# a third of the themes of a random script are of each list
-ALL = OF_01 + weighed(OF_RATES, themes_of_01) + weighed(OF_LOOKS, looks_in_themes)
+# a fourth of the themes of a random script are of each list
+ALL = OF_01 + weighed(OF_RATES, themes_of_01) + weighed(OF_LOOKS, looks_in_themes) + weighed(OF_HOLDS, hold_states)
 
 
 def any_script(pick, size):

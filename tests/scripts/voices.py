@@ -38,6 +38,18 @@ def loud(pulses=MOST_PULSES):
     return file_of(energies, pitches, ks, [-128 if i % 2 else 127 for i in range(pulses)])
 
 
+# an energy index of the next voice whose value is 0; so is that of each third one
+HUSHED = 3
+
+
+def hushed(pulses=MOST_PULSES):
+    """The soft voice with 0 among its energies, which a frame that is no silence then has."""
+    data = soft(pulses)
+    for index in range(HUSHED, ENERGIES, 3):
+        data = with_value(data, ENERGY, index, 0)
+    return data
+
+
 def any_voice(pick):
     """A random valid voice file."""
     far = pick.one_of([60, 300, 512])
