@@ -285,7 +285,7 @@ static bool boundary(struct chip *c, struct bytes image, struct bytes voice, str
     }
     answer->report = answer->frame.kind == STOP ? STOPPED : FRAME;
     c->interval = first_interval(c->rate, answer->frame.rate);
-    set_targets(&c->sound, voice.at, &answer->frame);
+    begin_frame(&c->sound, voice.at, &answer->frame);
     return true;
 }
 

@@ -54,10 +54,11 @@ struct params {
     int energy, pitch, k[10];
 };
 
+/* holds, 0 or 1, is as wide as the rest, so that a sound has no padding and can be compared by its bytes */
 struct sound {
     struct params current, target;
     int memory[10];
-    unsigned noise, pulse;
+    unsigned noise, pulse, holds;
 };
 
 enum mode { IDLE, ROM, WAITING, EXTERNAL };

@@ -35,13 +35,16 @@ static int16_t sample(struct sound *s, const uint8_t *voice)
     return clamp(f, -512, 511);
 }
 
-/* Towards the targets; the shift of an interval divides by 8, 8, 8, 4, 4, 2, 2, 1, rounding down. */
+/* Towards the targets; the shift of an interval divides by 8, 8, 8, 4, 4, 2, 2, 1, rounding down. A frame that holds keeps its
+   currents until interval 7. */
 static void interpolate(struct sound *s, unsigned interval)
 {
     static const int shift[8] = {3, 3, 3, 2, 2, 1, 1, 0};
     struct params *c = &s->current;
     const struct params *t = &s->target;
     int by = shift[interval];
+    if (s->holds && interval < 7)
+        return;
     c->energy += (t->energy - c->energy) >> by;
     c->pitch += (t->pitch - c->pitch) >> by;
     for (int i = 0; i < 10; i++)
@@ -54,10 +57,9 @@ static int table(const uint8_t *voice, unsigned n)
     return (int16_t)(voice[3 + 2 * n] << 8 | voice[4 + 2 * n]);
 }
 
-static void set_targets(struct sound *s, const uint8_t *voice, const struct frame *f)
+static void set_targets(struct params *t, const uint8_t *voice, const struct frame *f)
 {
     static const unsigned start[10] = {79, 111, 143, 159, 175, 191, 207, 223, 231, 239};
-    struct params *t = &s->target;
     if (f->kind == SILENCE || f->kind == STOP) {
         t->energy = 0;
         return;
@@ -68,4 +70,12 @@ static void set_targets(struct sound *s, const uint8_t *voice, const struct fram
         return;
     for (int i = 0; i < 10; i++)
         t->k[i] = f->kind == VOICED || i < 4 ? table(voice, start[i] + f->k[i]) : 0;
+}
+
+/* The frame's targets; it holds where it changes voiced to unvoiced or back, or energy comes from 0. */
+static void begin_frame(struct sound *s, const uint8_t *voice, const struct frame *f)
+{
+    bool was_voiced = s->target.pitch != 0, was_mute = s->target.energy == 0;
+    set_targets(&s->target, voice, f);
+    s->holds = was_voiced != (s->target.pitch != 0) || (was_mute && s->target.energy != 0);
 }
