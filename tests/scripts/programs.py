@@ -32,6 +32,20 @@ def build_model():
     return MODEL
 
 
+def compile_altered(file, old, new, folder):
+    """The model with one text of a source file replaced, compiled to `folder`/model. What is wrong with that, if anything is."""
+    copy = folder / 'src'
+    shutil.copytree(SOURCE, copy)
+    text = (copy / file).read_text()
+    if text.count(old) != 1:
+        return f'its text is {text.count(old)} times in {file}'
+    (copy / file).write_text(text.replace(old, new))
+    options = ['--edition', '2021', '-A', 'warnings', '-C', 'opt-level=0', '-C', 'debug-assertions=off']
+    words = ['rustc'] + options + ['-o', folder / 'model', copy / 'main.rs']
+    done = subprocess.run(words, stdout=subprocess.PIPE, stderr=subprocess.STDOUT)
+    return '' if done.returncode == 0 else 'it does not compile:\n' + done.stdout.decode()
+
+
 def play(program, script):
     """What the program prints for a script. It has to end well and say nothing else."""
     done = subprocess.run([program], input=script, stdout=subprocess.PIPE, stderr=subprocess.PIPE, timeout=SECONDS)
