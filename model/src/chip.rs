@@ -1,7 +1,7 @@
 //! The chip: its state and ranges, power-up, a byte written, a look, an
 //! acknowledge, a byte read.
 
-use crate::frame::{bit_of_byte, field, take_frame, Frame};
+use crate::frame::{bit_of_byte, field, take_frame, Cut, Frame};
 use crate::numbers::*;
 use crate::rate::*;
 use crate::rom::*;
@@ -297,8 +297,13 @@ fn fifo_end(chip: &Chip) -> i64 {
     BYTE * chip.level
 }
 
-/// The whole frame that the FIFO's bits begin with and its width, or none.
-pub fn fifo_frame(chip: &Chip) -> Option<(Frame, i64)> {
+/// The bits that are still held: of the oldest byte those that are not out.
+pub fn held_bits(chip: &Chip) -> i64 {
+    fifo_end(chip) - chip.used
+}
+
+/// The whole frame that the FIFO's bits begin with and its width, or its cut.
+pub fn fifo_frame(chip: &Chip) -> Result<(Frame, i64), Cut> {
     take_frame(&|at| fifo_bit(chip, at), chip.used, fifo_end(chip), chip.v)
 }
 

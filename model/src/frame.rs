@@ -34,6 +34,17 @@ pub struct Frame {
 
 pub const NO_FRAME: Frame = Frame { kind: NONE, energy: 0, pitch: 0, k: [0; 11], rate: 0 };
 
+/// A frame whose bits run out.
+/// 4: "at which bit the frame began and how many bits are missing".
+#[derive(Clone, Copy, PartialEq, Debug)]
+pub struct Cut {
+    pub begun: i64,
+    pub missing: i64,
+}
+
+/// trace: "else `0 0`".
+pub const NO_CUT: Cut = Cut { begun: 0, missing: 0 };
+
 /// Where a frame's bits come from: the bit at a place, and the place after
 /// the last bit.
 struct Taker<'a> {
@@ -70,13 +81,67 @@ pub fn bit_of_byte(byte: i64, from_top: i64) -> i64 {
 }
 
 /// 01: "A frame is taken whole or refused."
-/// The frame that begins at `start` and its width in bits, or none if the
+/// The frame that begins at `start` and its width in bits, or its cut if the
 /// bits end inside it or before its first bit (D 38). The rate bits, if there
 /// are any, count (D 107).
-pub fn take_frame(bit: &dyn Fn(i64) -> i64, start: i64, end: i64, v: i64) -> Option<(Frame, i64)> {
+pub fn take_frame(bit: &dyn Fn(i64) -> i64, start: i64, end: i64, v: i64) -> Result<(Frame, i64), Cut> {
     let mut taker = Taker { bit, at: start, end };
-    let frame = fields(&mut taker, v)?;
-    Some((frame, taker.at - start))
+    let Some(frame) = fields(&mut taker, v) else {
+        return Err(cut(bit, start, end, v));
+    };
+    Ok((frame, taker.at - start))
+}
+
+/// 4: "When a frame's bits run out, the frame reader also tells at which bit
+/// the frame began and how many bits are missing". The rate bits are the
+/// frame's first.
+fn cut(bit: &dyn Fn(i64) -> i64, start: i64, end: i64, v: i64) -> Cut {
+    let present = present_bits(start, end);
+    Cut { begun: start, missing: expected_bits(bit, start, present, v) - present }
+}
+
+/// How many bits of a cut frame are there.
+/// 4: "A ROM frame with no bit present [..], even past the image's end."
+fn present_bits(start: i64, end: i64) -> i64 {
+    (end - start).max(0)
+}
+
+/// How many bits a cut frame should have had, as far as its present ones tell.
+fn expected_bits(bit: &dyn Fn(i64) -> i64, start: i64, present: i64, v: i64) -> i64 {
+    let more = more_expected(v);
+    // 4: "a cut energy lacks bits up to 4". So does one of which no bit is
+    // there: "[it] is a cut energy, 4 missing".
+    if present < 4 + more {
+        return 4 + more;
+    }
+    // 4: "a cut repeat or pitch lacks bits up to 11". Whatever the repeat bit
+    // says (D 69).
+    if present < 11 + more {
+        return 11 + more;
+    }
+    // 4: "later the kind is known."
+    known_bits(bit, start + more) + more
+}
+
+/// 5: "With v = 1 the bits that §4 expects grow by two."
+fn more_expected(v: i64) -> i64 {
+    if v == 1 {
+        return 2;
+    }
+    0
+}
+
+/// The bits of a frame that is cut behind its pitch. `energy_at` is the place
+/// of its energy; the pitch stands behind that and the repeat bit. A silence, a
+/// stop and a repeat frame are whole there.
+fn known_bits(bit: &dyn Fn(i64) -> i64, energy_at: i64) -> i64 {
+    let pitch = field(bit, energy_at + ENERGY_BITS + REPEAT_BITS, PITCH_BITS);
+    // 01: "unvoiced | other energy, repeat 0, pitch 0; K1 to K4 | 29"
+    if pitch == 0 {
+        return 29;
+    }
+    // 01: "voiced | other energy, repeat 0, pitch not 0 | 50"
+    50
 }
 
 /// 5: "with v = 1 every frame, silence and stop included, starts with two rate

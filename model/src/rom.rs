@@ -44,8 +44,11 @@ pub fn rom_bit(image: &[u8], position: i64) -> i64 {
     bit_of_byte(byte_at(image, floor(position, BYTE)), position.rem_euclid(BYTE))
 }
 
-/// The whole frame at a position of the image with its width, or none.
-pub fn rom_frame(image: &[u8], position: i64, v: i64) -> Option<(Frame, i64)> {
+/// The whole frame at a position of the image with its width, or its cut.
+/// A cut one begins at that position, a bit of the image (D 106).
+/// 4: "begun at the position the walk or step had reached, even past the
+/// image's end."
+pub fn rom_frame(image: &[u8], position: i64, v: i64) -> Result<(Frame, i64), Cut> {
     take_frame(&|at| rom_bit(image, at), position, end(image), v)
 }
 
@@ -54,10 +57,11 @@ pub struct FrameTaken {
     pub refusal: i64,
     pub bits: i64,
     pub frame: Frame,
+    pub cut: Cut,
 }
 
 fn frame_refused(refusal: i64) -> FrameTaken {
-    FrameTaken { refusal, bits: 0, frame: NO_FRAME }
+    FrameTaken { refusal, bits: 0, frame: NO_FRAME, cut: NO_CUT }
 }
 
 /// "a frame taken at a bit": 01, "The module". On the TMS5220 no frame has
@@ -78,11 +82,17 @@ pub fn rated_frame_at(image: &[u8], v: i64, bit: i64) -> FrameTaken {
     if refusal != TAKEN {
         return frame_refused(refusal);
     }
-    // 01: "NO PHRASE | [..] frame taken: the bits end inside it".
-    let Some((frame, bits)) = rom_frame(image, bit, v) else {
-        return frame_refused(NO_PHRASE);
-    };
-    FrameTaken { refusal: TAKEN, bits, frame }
+    match rom_frame(image, bit, v) {
+        Ok((frame, bits)) => FrameTaken { refusal: TAKEN, bits, frame, cut: NO_CUT },
+        Err(cut) => frame_cut(cut),
+    }
+}
+
+/// 01: "NO PHRASE | [..] frame taken: the bits end inside it".
+/// 4: "This amends document 01's zeros for number 10". No other number's
+/// (D 67).
+fn frame_cut(cut: Cut) -> FrameTaken {
+    FrameTaken { cut, ..frame_refused(NO_PHRASE) }
 }
 
 /// 01: "BEYOND | [..] frame taken at a bit at or past its end".
@@ -104,12 +114,20 @@ pub struct Walked {
     pub samples: i64,
     pub part_from: i64,
     pub part_to: i64,
+    pub cut: Cut,
 }
 
 /// 01: "A refused call returns [..] zero for each number, [..] and an empty
 /// part."
 fn walk_refused(refusal: i64) -> Walked {
-    Walked { refusal, bits: 0, frames: 0, intervals: 0, samples: 0, part_from: 0, part_to: 0 }
+    Walked { refusal, bits: 0, frames: 0, intervals: 0, samples: 0, part_from: 0, part_to: 0, cut: NO_CUT }
+}
+
+/// 01: "NO PHRASE | walk: the bits end before a stop".
+/// 4: "The walk passes both on". "This amends document 01's zeros for number
+/// 10".
+fn walk_cut(cut: Cut) -> Walked {
+    Walked { cut, ..walk_refused(NO_PHRASE) }
 }
 
 /// "a phrase walk over an image": 01, "The module". On the TMS5220 each frame
@@ -135,9 +153,9 @@ pub fn rated_walk(image: &[u8], v: i64, rr: i64, address: i64) -> Walked {
     let mut frames = 0;
     let mut intervals = 0;
     loop {
-        // 01: "NO PHRASE | walk: the bits end before a stop".
-        let Some((frame, bits)) = rom_frame(image, at, v) else {
-            return walk_refused(NO_PHRASE);
+        let (frame, bits) = match rom_frame(image, at, v) {
+            Ok(whole) => whole,
+            Err(cut) => return walk_cut(cut),
         };
         at += bits;
         frames += 1;
@@ -157,6 +175,7 @@ pub fn rated_walk(image: &[u8], v: i64, rr: i64, address: i64) -> Walked {
         samples,
         part_from: address,
         part_to: byte_of_last_bit(at) + 1,
+        cut: NO_CUT,
     }
 }
 

@@ -13,7 +13,20 @@ pub struct Stepped {
     pub sample: i64,
     pub report: i64,
     pub frame: Frame,
+    pub short: Short,
 }
+
+/// What a step that runs out tells besides; zeros for each other one (D 68).
+/// 4: the bit at which the frame began, "the bits used up and the bits
+/// missing".
+#[derive(Clone, Copy, PartialEq, Debug)]
+pub struct Short {
+    pub begun: i64,
+    pub used_up: i64,
+    pub missing: i64,
+}
+
+pub const NOT_SHORT: Short = Short { begun: 0, used_up: 0, missing: 0 };
 
 /// 01: "a sample step and a run take all three": 3, 5 to 9, 4. (D 45)
 /// A step never gives 1, 2 or 10.
@@ -31,7 +44,7 @@ pub fn step(image: &[u8], voice: &[u8], chip: Chip) -> Stepped {
     // 01: "A refused call returns the given state, zero for each number, no
     // frame".
     if refusal != TAKEN {
-        return Stepped { chip, refusal, sample: 0, report: NOTHING, frame: NO_FRAME };
+        return Stepped { chip, refusal, sample: 0, report: NOTHING, frame: NO_FRAME, short: NOT_SHORT };
     }
     taken_step(image, &tables(voice), chip)
 }
@@ -84,7 +97,7 @@ fn rises(first: i64, second: i64, bit: i64) -> bool {
 }
 
 fn without_frame(chip: Chip, report: i64) -> Stepped {
-    Stepped { chip, refusal: TAKEN, sample: 0, report, frame: NO_FRAME }
+    Stepped { chip, refusal: TAKEN, sample: 0, report, frame: NO_FRAME, short: NOT_SHORT }
 }
 
 /// A step but for the interrupt.
@@ -103,8 +116,9 @@ fn sounded(image: &[u8], tables: &Tables, given: Chip) -> Stepped {
         if !speaking(chip.mode) {
             return without_frame(put_to_rest(chip), NOTHING);
         }
-        let Some((taken, next)) = next_frame(image, chip) else {
-            return without_frame(run_out(image, chip), RAN_OUT);
+        let (taken, next) = match next_frame(image, chip) {
+            Ok(whole) => whole,
+            Err(short) => return Stepped { short, ..without_frame(run_out(image, chip), RAN_OUT) },
         };
         frame = taken;
         chip = next;
@@ -126,7 +140,14 @@ fn sounded(image: &[u8], tables: &Tables, given: Chip) -> Stepped {
     let forward = forward_values(&chip, excitation);
     chip.memory = next_memory(&chip, &forward);
     let chip = count_on(chip);
-    Stepped { chip, refusal: TAKEN, sample: held_sample(forward[1]), report: report_of(&frame), frame }
+    Stepped {
+        chip,
+        refusal: TAKEN,
+        sample: held_sample(forward[1]),
+        report: report_of(&frame),
+        frame,
+        short: NOT_SHORT,
+    }
 }
 
 /// 01: "Each step reports its frame, if any, and one of: nothing, frame, stop,
@@ -154,8 +175,9 @@ fn first_interval(chip: &Chip, frame: &Frame) -> i64 {
 
 // ---------------------------------------------------------------- the frame of a step
 
-/// The frame, and the chip after its bits have left; none is running out.
-fn next_frame(image: &[u8], chip: Chip) -> Option<(Frame, Chip)> {
+/// The frame, and the chip after its bits have left; or how short they are
+/// where it runs out.
+fn next_frame(image: &[u8], chip: Chip) -> Result<(Frame, Chip), Short> {
     if chip.mode == ROM {
         return next_rom_frame(image, chip);
     }
@@ -164,19 +186,32 @@ fn next_frame(image: &[u8], chip: Chip) -> Option<(Frame, Chip)> {
 
 /// 01: "if the ROM ends inside a frame or before its first bit" it runs out. A
 /// frame that ends exactly with the image is whole (D 40).
-fn next_rom_frame(image: &[u8], chip: Chip) -> Option<(Frame, Chip)> {
-    let (frame, width) = rom_frame(image, chip.position, chip.v)?;
-    Some((frame, Chip { position: chip.position + width, ..chip }))
+fn next_rom_frame(image: &[u8], chip: Chip) -> Result<(Frame, Chip), Short> {
+    let (frame, width) = rom_frame(image, chip.position, chip.v).map_err(short_in_rom)?;
+    Ok((frame, Chip { position: chip.position + width, ..chip }))
+}
+
+/// 4: "a sample step that runs out in ROM reports them." The position is where
+/// the frame began, not where it goes to.
+fn short_in_rom(cut: Cut) -> Short {
+    Short { begun: cut.begun, used_up: 0, missing: cut.missing }
 }
 
 /// 01: "If the FIFO's bits end inside a frame, or end exactly with a frame
 /// other than a stop, they are used up." (D 39)
-fn next_fifo_frame(chip: Chip) -> Option<(Frame, Chip)> {
-    let (frame, width) = fifo_frame(&chip)?;
+fn next_fifo_frame(chip: Chip) -> Result<(Frame, Chip), Short> {
+    let (frame, width) = fifo_frame(&chip).map_err(|cut| short_in_fifo(&chip, cut.missing))?;
+    // 4: "0 missing where the last frame was whole".
     if ends_fifo(&chip, width) && frame.kind != STOP {
-        return None;
+        return Err(short_in_fifo(&chip, 0));
     }
-    Some((frame, take_fifo_bits(chip, width)))
+    Ok((frame, take_fifo_bits(chip, width)))
+}
+
+/// 4: "For the FIFO the step reports the bits used up and the bits missing, [..]
+/// and no place." Used up are the bits that were still held.
+fn short_in_fifo(chip: &Chip, missing: i64) -> Short {
+    Short { begun: 0, used_up: held_bits(chip), missing }
 }
 
 /// 01: "Stop also makes the mode idle and discards held FIFO bytes; its frame

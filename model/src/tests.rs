@@ -1,6 +1,6 @@
 //! Tests: document 01's "Numbers to try", sizes at their bounds, each refusal
-//! number, the order of checks, the traps, the TMS5220C, frames that hold, look
-//! and acknowledge, the trace format, garbage.
+//! number, the order of checks, the traps, the TMS5220C, how short a frame is,
+//! frames that hold, look and acknowledge, the trace format, garbage.
 
 use crate::chip::*;
 use crate::frame::*;
@@ -338,6 +338,10 @@ fn sizes_to_try() {
 /// What the paper's lister would print, from the walk and the frames alone.
 fn listed(image: &[u8]) -> String {
     let walked = walk(image, 0);
+    // 4: "the lister prints them after the number". Only after 10 (D 67).
+    if walked.refusal == NO_PHRASE {
+        return format!("refused 10 {} {}\n", walked.cut.begun, walked.cut.missing);
+    }
     if walked.refusal != TAKEN {
         return format!("refused {}\n", walked.refusal);
     }
@@ -369,7 +373,8 @@ fn list_to_try() {
     let text = "phrase 3 frames 19 bits 3 bytes\n0 silence 0 -\n4 repeat 3 1\n15 stop 15 -\n";
     assert_eq!(listed(&[0x03, 0x83, 0xE0]), text);
     assert_eq!(listed(&[]), "refused 3\n");
-    assert_eq!(listed(&[0]), "refused 10\n");
+    assert_eq!(listed(&[0]), "refused 10 8 4\n");
+    assert_eq!(listed(&[0x03, 0x83]), "refused 10 15 3\n");
     let image = bits("0101 0 000000 10001 00001 1001 0110   1110 0 111110 00001 00010 0011 0100 0101 0110 0111 001 010 011  1111");
     let text = "phrase 3 frames 83 bits 11 bytes\n0 unvoiced 5 0 17 1 9 6\n29 voiced 14 62 1 2 3 4 5 6 7 1 2 3\n79 stop 15 -\n";
     assert_eq!(listed(&image), text);
@@ -1325,6 +1330,258 @@ fn fifo_with_rate_bits() {
     assert_eq!((stepped.report, stepped.frame.rate), (STOPPED, 3));
 }
 
+// ---------------------------------------------------------------- how short a frame is
+
+/// The cut of a frame at a bit, which is refused with 10.
+fn cut_at(image: &[u8], v: i64, bit: i64) -> (i64, i64) {
+    let answer = rated_frame_at(image, v, bit);
+    assert_eq!((answer.refusal, answer.bits, answer.frame), (NO_PHRASE, 0, NO_FRAME));
+    (answer.cut.begun, answer.cut.missing)
+}
+
+fn walk_cut_at(image: &[u8], v: i64, rr: i64, address: i64) -> (i64, i64) {
+    let walked = rated_walk(image, v, rr, address);
+    assert_eq!((walked.refusal, walked.bits, walked.frames), (NO_PHRASE, 0, 0));
+    assert_eq!((walked.intervals, walked.samples, walked.part_from, walked.part_to), (0, 0, 0, 0));
+    (walked.cut.begun, walked.cut.missing)
+}
+
+/// Begun, used up and missing of a step, in the format's order.
+fn short_of(stepped: &Stepped) -> (i64, i64, i64) {
+    (stepped.short.begun, stepped.short.used_up, stepped.short.missing)
+}
+
+/// The bits that lack behind so many of this kind, rate bits aside, by the
+/// words of §4.
+fn lacking(kind: i64, present: i64) -> i64 {
+    let bounds = [4, 11, if kind == UNVOICED { 29 } else { 50 }];
+    bounds.into_iter().find(|bound| present < *bound).unwrap() - present
+}
+
+/// A frame's text without its blanks.
+fn digits(text: &str) -> String {
+    text.chars().filter(|c| *c != ' ').collect()
+}
+
+#[test]
+fn lacking_bits_to_try() {
+    // So many bits of the frame are there, so many lack: at each bound.
+    for (text, present, missing) in [
+        ("0", 1, 3),
+        ("1", 1, 3),
+        ("000", 3, 1),
+        ("111", 3, 1),
+        ("0011", 4, 7),
+        ("00111", 5, 6),
+        ("00110", 5, 6),
+        ("0011 1 00010", 10, 1),
+        ("0011 0 00010", 10, 1),
+        ("0011 0 00000", 10, 1),
+        ("0101 0 000000", 11, 18),
+        ("0101 0 000000 10001 00001 1001 011", 28, 1),
+        ("0101 0 000001", 11, 39),
+        ("0101 0 000001 10001 00001 1001 011", 28, 22),
+        ("0101 0 000001 10001 00001 1001 0110", 29, 21),
+        ("0101 0 100000 10001 00001 1001 0110 0101 0110 0111 001 010 01", 49, 1),
+    ] {
+        let text = digits(text);
+        assert_eq!(text.len(), present);
+        for (v, rate) in [(0, ""), (1, "00"), (1, "01"), (1, "11")] {
+            let lead = (800 - present - rate.len()) % 8;
+            let image = bits(&format!("{}{rate}{text}", "1".repeat(lead)));
+            assert_eq!(cut_at(&image, v, lead as i64), (lead as i64, missing), "{text}, v = {v}");
+        }
+    }
+    // Inside the rate bits, and right behind them.
+    assert_eq!(cut_at(&[0xFF], 1, 7), (7, 5));
+    assert_eq!(cut_at(&[0xFF], 1, 6), (6, 4));
+    assert_eq!(cut_at(&[0xFF], 1, 5), (5, 3));
+}
+
+#[test]
+fn cuts_after_each_bit() {
+    for (text, kind, width) in KINDS_TO_TRY {
+        for v in 0..=1 {
+            let whole = if v == 1 { format!("10{}", digits(text)) } else { digits(text) };
+            for present in 1..width + 2 * v {
+                // The end of the image cuts the frame, and 24 bits stand
+                // before it in whole frames.
+                let fill = (80 - present) % 8;
+                let before = "0".repeat(24 + fill as usize);
+                let image = bits(&format!("{before}{}", &whole[..present as usize]));
+                let (begun, missing) = (24 + fill, lacking(kind, present - 2 * v));
+                assert_eq!(cut_at(&image, v, begun), (begun, missing), "{text} cut to {present}");
+                // Steps from that position, in ROM and in the FIFO.
+                let chip = Chip { v, rr: 1, position: begun, mode: ROM, sounding: 1, ..power_up_of(TMS5220C) };
+                let stepped = taken(&image, chip);
+                assert_eq!((stepped.report, short_of(&stepped)), (RAN_OUT, (begun, 0, missing)));
+                assert_eq!(stepped.chip.position, end(&image));
+                let bytes: Vec<i64> = image[3..].iter().map(|byte| i64::from(*byte)).collect();
+                let stepped = taken(&[0], Chip { device: TMS5220C, v, ..speech(&bytes, fill) });
+                assert_eq!((stepped.report, short_of(&stepped)), (RAN_OUT, (0, present, missing)));
+            }
+            // The whole frame has nothing to tell, but in the FIFO, which ends
+            // with it.
+            let fill = (80 - width - 2 * v) % 8;
+            let image = bits(&format!("{}{whole}", "1".repeat(fill as usize)));
+            assert_eq!(rated_frame_at(&image, v, fill).cut, NO_CUT);
+            let bytes: Vec<i64> = image.iter().map(|byte| i64::from(*byte)).collect();
+            let stepped = taken(&[0], Chip { device: TMS5220C, v, ..speech(&bytes, fill) });
+            if kind == STOP {
+                assert_eq!((stepped.report, stepped.short), (STOPPED, NOT_SHORT));
+            } else {
+                assert_eq!((stepped.report, short_of(&stepped)), (RAN_OUT, (0, width + 2 * v, 0)));
+            }
+        }
+    }
+}
+
+#[test]
+fn walks_tell_the_cut() {
+    assert_eq!(walk_cut_at(&[0x03, 0x83], 0, 0, 0), (15, 3));
+    // From byte 1 the first frame is cut, in its pitch.
+    assert_eq!(walk_cut_at(&[0x03, 0x83], 0, 0, 1), (8, 3));
+    // Whole frames up to the end, from an address too, with v = 1 as well.
+    assert_eq!(walk_cut_at(&[0x00], 0, 0, 0), (8, 4));
+    assert_eq!(walk_cut_at(&[0x00; 3], 0, 3, 2), (24, 4));
+    assert_eq!(walk_cut_at(&[0x00; 3], 1, 2, 0), (24, 6));
+    // 00 0000, then 00.
+    assert_eq!(walk_cut_at(&[0x00; 3], 1, 2, 2), (22, 4));
+    // The same bits a byte later: the place is one of the image, not of the
+    // phrase.
+    let image = bits("0101 0 000001 10001 00001 1001 0110 0101 0110 0111 001 010 011 1110 0 1");
+    assert_eq!(walk_cut_at(&image, 0, 0, 0), (50, 5));
+    assert_eq!(walk_cut_at(&[vec![0xFF], image].concat(), 0, 0, 1), (58, 5));
+    // The end of the largest image.
+    assert_eq!(walk_cut_at(&vec![0; 262_144], 0, 0, 262_143), (2_097_152, 4));
+    assert_eq!(walk_cut_at(&vec![0; 262_144], 1, 0, 0), (2_097_150, 4));
+}
+
+#[test]
+fn only_number_10_tells_a_cut() {
+    let image = [0x00, 0x10];
+    for (v, rr, address) in [(0, 0, 2), (0, 0, 0xFFFF_FFFF), (2, 0, 0), (0, 4, 0), (1, 4, 2)] {
+        let walked = rated_walk(&image, v, rr, address);
+        assert!([BEYOND, STATE].contains(&walked.refusal));
+        assert_eq!(walked.cut, NO_CUT);
+    }
+    for (v, bit) in [(0, 16), (1, 16), (0, 17), (0, 0xFFFF_FFFF), (2, 0), (2, 15)] {
+        let answer = rated_frame_at(&image, v, bit);
+        assert!([BEYOND, STATE].contains(&answer.refusal));
+        assert_eq!(answer.cut, NO_CUT);
+    }
+    for image in [vec![], vec![0; 262_145]] {
+        assert_eq!((walk(&image, 0).refusal, walk(&image, 0).cut), (IMAGE, NO_CUT));
+        assert_eq!((frame_at(&image, 0).refusal, frame_at(&image, 0).cut), (IMAGE, NO_CUT));
+    }
+    assert_eq!((frame_at(&image, 0).refusal, frame_at(&image, 0).cut), (TAKEN, NO_CUT));
+    assert_eq!((walk(&[0x0F], 0).refusal, walk(&[0x0F], 0).cut), (TAKEN, NO_CUT));
+    // Steps: refused ones, and those that do not run out.
+    let due = Chip { mode: ROM, sounding: 1, position: 8, ..power_up() };
+    for (image, file, chip) in [
+        (&[][..], voice(1), due),
+        (&[0], voice(1)[..498].to_vec(), due),
+        (&[0], with(&voice(1), 2, &[2]), due),
+        (&[0], voice(1), Chip { nibble: 5, ..due }),
+        (&[0, 0], voice(1), due),
+        (&[0, 0xF0], voice(1), due),
+        (&[0], voice(1), Chip { interval: 1, ..due }),
+        (&[0], voice(1), Chip { mode: IDLE, ..due }),
+        (&[0], voice(1), power_up()),
+    ] {
+        let stepped = step(image, &file, chip);
+        assert!(stepped.report != RAN_OUT);
+        assert_eq!(stepped.short, NOT_SHORT);
+    }
+}
+
+#[test]
+fn steps_in_rom_tell_the_cut() {
+    // With no bit present, at the image's end and past it, on both devices.
+    for (chip, missing) in [(power_up(), 4), (rated(0, 3), 4), (rated(1, 0), 6)] {
+        for position in [8, 9, 40, 2_097_151, 2_097_152] {
+            let stepped = taken(&[0xFF], Chip { mode: ROM, sounding: 1, position, ..chip });
+            assert_eq!((stepped.report, short_of(&stepped)), (RAN_OUT, (position, 0, missing)));
+            assert_eq!(stepped.chip.position, position);
+        }
+    }
+    // The image is exchanged for a shorter one after a frame.
+    let long = bits("0011 1 000101 0000 1111 00000");
+    let chip = steps(&long, writes(&long, power_up(), &[0x50]), 200);
+    assert_eq!(chip.position, 11);
+    for (image, missing) in [(&[0x00][..], 4), (&[0x00, 0x03], 6)] {
+        let stepped = taken(image, chip);
+        assert_eq!((stepped.report, short_of(&stepped)), (RAN_OUT, (11, 0, missing)));
+    }
+    // A run over it has no more to tell than the samples and the chip.
+    assert_eq!(steps(&[0x00], chip, 3), Chip { position: 11, interrupt: 1, ..power_up() });
+}
+
+#[test]
+fn steps_in_the_fifo_tell_what_is_used_up() {
+    // Each number of used bits of a byte in the energy: no place, and the used
+    // bits are not used up once more.
+    for used in 5..8 {
+        let stepped = taken(&[0], speech(&[0xFF], used));
+        assert_eq!((stepped.report, short_of(&stepped)), (RAN_OUT, (0, 8 - used, 4 - (8 - used))));
+    }
+    for used in 0..8 {
+        // 0001 1.. behind the used bits, and another byte: 16 less used.
+        let byte = 0b0001_1111_1111_1111 >> used;
+        let stepped = taken(&[0], speech(&[byte >> 8, byte & 255], used));
+        let present = 16 - used;
+        if present > 11 {
+            assert_eq!((stepped.report, stepped.short), (FRAME, NOT_SHORT));
+        } else if present == 11 {
+            assert_eq!((stepped.report, short_of(&stepped)), (RAN_OUT, (0, 11, 0)));
+        } else {
+            assert_eq!((stepped.report, short_of(&stepped)), (RAN_OUT, (0, present, 11 - present)));
+        }
+    }
+    // The position plays no part.
+    let stepped = taken(&[0], Chip { position: 99, ..speech(&[0x10], 0) });
+    assert_eq!((short_of(&stepped), stepped.chip.position), ((0, 8, 3), 99));
+    // Nine bytes of silence end with a whole frame, of four bits.
+    let chip = steps(&[0], external(&[0; 9]), 3_400);
+    assert_eq!(short_of(&taken(&[0], chip)), (0, 4, 0));
+    // From eight bytes on no frame can end the FIFO.
+    for level in 8..=16 {
+        for v in 0..=1 {
+            for used in 0..8 {
+                let chip = Chip { device: TMS5220C, v, ..speech(&vec![0x22; level], used) };
+                let stepped = taken(&[0], chip);
+                assert_eq!((stepped.report, stepped.short), (FRAME, NOT_SHORT));
+            }
+        }
+    }
+}
+
+/// What a step has told, from the chip before it and the frame reader.
+fn short_by_rule(image: &[u8], before: &Chip, stepped: &Stepped) {
+    if stepped.report != RAN_OUT {
+        assert_eq!(stepped.short, NOT_SHORT);
+        return;
+    }
+    let (begun, used_up, missing) = short_of(stepped);
+    if before.mode == ROM {
+        assert_eq!((begun, used_up), (before.position, 0));
+        let there = (end(image) - begun).max(0);
+        if there > 0 {
+            assert_eq!(cut_at(image, before.v, begun), (begun, missing));
+        } else {
+            assert_eq!(missing, 4 + 2 * before.v);
+        }
+        return;
+    }
+    assert_eq!((begun, used_up), (0, 8 * before.level - before.used));
+    // The same bits as an image: a cut frame there, or a whole one that ends
+    // with them.
+    let bytes: Vec<u8> = before.fifo[..before.level as usize].iter().map(|byte| *byte as u8).collect();
+    let answer = rated_frame_at(&bytes, before.v, before.used);
+    assert_eq!(answer.cut.missing, missing);
+    assert!(answer.refusal == NO_PHRASE || answer.bits == used_up && answer.frame.kind != STOP);
+}
+
 // ---------------------------------------------------------------- frames that hold
 
 // Indexes 5 of energy and pitch, and index 3 of energy, whose value is 0 in
@@ -1709,6 +1966,7 @@ fn laws_over_valid_states() {
             assert!((-512..=511).contains(&element));
             stepwise = stepped.chip;
             held_by_rule(&before, &stepped);
+            short_by_rule(&image, &before, &stepped);
             let fell = speaking(before.mode) && !speaking(stepwise.mode);
             assert_eq!(fell, stepped.report == STOPPED || stepped.report == RAN_OUT);
             assert!(!fell || stepwise.interrupt == 1);
@@ -1748,6 +2006,10 @@ fn steps_follow_the_walk() {
             if due.refusal != TAKEN {
                 assert_eq!((stepped.report, chip.position), (RAN_OUT, end(&image)));
                 assert_eq!(walked.refusal, NO_PHRASE);
+                // Step and walk find one and the same cut.
+                assert_eq!(short_of(&stepped), (at, 0, walked.cut.missing));
+                assert_eq!(walked.cut.begun, at);
+                assert!(due.refusal == BEYOND || due.cut == walked.cut);
                 break;
             }
             at += due.bits;
@@ -1793,23 +2055,24 @@ fn trace_answers() {
     assert_eq!(played(b"QLK"), format!("Q 0\n{0}L 0 96\n{0}K 0\n{0}", power_line_of(TMS5220C)));
     // The empty image and voice at first.
     assert_eq!(played(b"W\x70"), format!("W 3\n{}", power_line()));
-    assert_eq!(played(b"T"), format!("T 3 0 0{}\n{}", " 0".repeat(14), power_line()));
+    assert_eq!(played(b"T"), format!("T 3 0 0{}\n{}", " 0".repeat(17), power_line()));
     assert_eq!(played(b"U\x02\0\0\0"), format!("U 3 0\n{}", power_line()));
-    assert_eq!(played(b"I\x01\0\0\0\xFFT"), format!("I 1\nT 5 0 0{}\n{}", " 0".repeat(14), power_line()));
+    assert_eq!(played(b"I\x01\0\0\0\xFFT"), format!("I 1\nT 5 0 0{}\n{}", " 0".repeat(17), power_line()));
     assert_eq!(played(b"V\0\0\0\0"), "V 5\n");
     assert_eq!(played(&counted(b'V', &voice(1))), "V 0\n");
-    assert_eq!(played(&numbered(b'F', 0)), format!("F 3 0{}\n", " 0".repeat(13)));
-    assert_eq!(played(&numbered(b'A', 0)), "A 3 0 0 0 0 0 0\n");
+    assert_eq!(played(&numbered(b'F', 0)), format!("F 3 0{}\n", " 0".repeat(15)));
+    assert_eq!(played(&numbered(b'A', 0)), "A 3 0 0 0 0 0 0 0 0\n");
     let image = counted(b'I', &[0x03, 0x83, 0xE0]);
     let script = [image.clone(), numbered(b'F', 0), numbered(b'F', 4), numbered(b'F', 15), numbered(b'F', 24)].concat();
     assert_eq!(
         played(&script),
-        "I 3\nF 0 4 1 0 0 0 0 0 0 0 0 0 0 0 0\nF 0 11 3 3 1 0 0 0 0 0 0 0 0 0 0\n\
-         F 0 4 2 15 0 0 0 0 0 0 0 0 0 0 0\nF 2 0 0 0 0 0 0 0 0 0 0 0 0 0 0\n"
+        "I 3\nF 0 4 1 0 0 0 0 0 0 0 0 0 0 0 0 0 0\nF 0 11 3 3 1 0 0 0 0 0 0 0 0 0 0 0 0\n\
+         F 0 4 2 15 0 0 0 0 0 0 0 0 0 0 0 0 0\nF 2 0 0 0 0 0 0 0 0 0 0 0 0 0 0 0 0\n"
     );
     let script = [image, numbered(b'A', 0), numbered(b'A', 2), numbered(b'A', 3)].concat();
     let sum = 0x03 + 0x83 + 0xE0;
-    assert_eq!(played(&script), format!("I 3\nA 0 19 3 24 600 3 {sum}\nA 10 0 0 0 0 0 0\nA 2 0 0 0 0 0 0\n"));
+    let lines = format!("I 3\nA 0 19 3 24 600 3 {sum} 0 0\nA 10 0 0 0 0 0 0 16 3\nA 2 0 0 0 0 0 0 0 0\n");
+    assert_eq!(played(&script), lines);
     // A sum above 65,535.
     let mut long = vec![0x1F; 300 * 11];
     for (i, byte) in bits(&"1110 1 111111".repeat(8)).iter().cycle().take(300 * 11).enumerate() {
@@ -1819,7 +2082,7 @@ fn trace_answers() {
     let sum: i64 = long.iter().map(|byte| i64::from(*byte)).sum();
     assert!(sum > 65_535);
     let script = [counted(b'I', &long), numbered(b'A', 0)].concat();
-    let expected = format!("I 3301\nA 0 26404 2401 19208 480200 3301 {}\n", sum % 65_536);
+    let expected = format!("I 3301\nA 0 26404 2401 19208 480200 3301 {} 0 0\n", sum % 65_536);
     assert_eq!(played(&script), expected);
 }
 
@@ -1839,11 +2102,38 @@ fn trace_rates() {
     assert_eq!(
         played(&script),
         format!(
-            "I 4\nG 0 6 1 0 0 0 0 0 0 0 0 0 0 0 0 1\nG 0 13 3 3 1 0 0 0 0 0 0 0 0 0 0 2\n\
-             G 0 6 2 15 0 0 0 0 0 0 0 0 0 0 0 3\nG 0 4 1 0 0 0 0 0 0 0 0 0 0 0 0 0\n\
-             G 4 0{none} 0\nG 2 0{none} 0\nB 0 25 3 12 300 4 {sum}\nB 4 0 0 0 0 0 0\nB 2 0 0 0 0 0 0\n"
+            "I 4\nG 0 6 1 0 0 0 0 0 0 0 0 0 0 0 0 1 0 0\nG 0 13 3 3 1 0 0 0 0 0 0 0 0 0 0 2 0 0\n\
+             G 0 6 2 15 0 0 0 0 0 0 0 0 0 0 0 3 0 0\nG 0 4 1 0 0 0 0 0 0 0 0 0 0 0 0 0 0 0\n\
+             G 4 0{none} 0 0 0\nG 2 0{none} 0 0 0\n\
+             B 0 25 3 12 300 4 {sum} 0 0\nB 4 0 0 0 0 0 0 0 0\nB 2 0 0 0 0 0 0 0 0\n"
         )
     );
+}
+
+#[test]
+fn trace_cuts() {
+    let none = " 0".repeat(13);
+    let image = counted(b'I', &[0x03, 0x83]);
+    let calls = b"A\0\0\0\0F\x0F\0\0\0G\0\x0F\0\0\0G\x01\x0F\0\0\0B\0\x03\0\0\0\0B\x01\0\x01\0\0\0".to_vec();
+    // With v = 1 byte 1 is 10 0000 and 11.
+    let lines = format!(
+        "I 2\nA 10 0 0 0 0 0 0 15 3\nF 10 0{none} 15 3\nG 10 0{none} 0 15 3\nG 10 0{none} 0 15 5\n\
+         B 10 0 0 0 0 0 0 15 3\nB 10 0 0 0 0 0 0 14 4\n"
+    );
+    assert_eq!(played(&[image.clone(), calls].concat()), lines);
+    // From ROM: a silence and a repeat frame, then one bit.
+    let start = [image, counted(b'V', &voice(3)), b"PW\x50".to_vec(), numbered(b'U', 400)].concat();
+    let text = played(&[start, b"TT".to_vec()].concat());
+    let told: Vec<&str> = text.lines().filter(|line| line.starts_with('T')).collect();
+    assert_eq!(told, [format!("T 0 0 3{none} 0 15 0 3"), format!("T 0 0 0{none} 0 0 0 0")]);
+    // From the FIFO: seventeen silences, and the eighteenth with the last bit;
+    // then another speech whose last bits are 0001.
+    for (last, line) in [(0x00, "0 4 0"), (0x01, "0 4 7")] {
+        let bytes: Vec<u8> = [0; 8].into_iter().chain([last]).flat_map(|byte| [b'W', byte]).collect();
+        let speak = [counted(b'I', &[0]), counted(b'V', &voice(3)), b"W\x60".to_vec(), bytes, numbered(b'U', 3_400)].concat();
+        let text = played(&[speak, b"T".to_vec()].concat());
+        assert_eq!(text.lines().rev().nth(1), Some(&format!("T 0 0 3{none} 0 {line}")[..]));
+    }
 }
 
 #[test]
@@ -1897,7 +2187,7 @@ fn trace_states() {
             numbered(b'U', 1),
         ]
         .concat();
-        let none = " 0".repeat(14);
+        let none = " 0".repeat(17);
         let refused = format!("W 4\n{line}R 4 0\n{line}T 4 0 0{none}\n{line}L 4 0\n{line}K 4\n{line}U 4 0\n{line}");
         let expected = format!("I 1\nV 0\n{line}{refused}");
         assert_eq!(played(&script), expected);

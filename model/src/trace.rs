@@ -3,10 +3,10 @@
 use std::io::{self, Write};
 
 use crate::chip::{acknowledge, look, power_up, power_up_of, read, write, Chip, Values};
-use crate::frame::Frame;
+use crate::frame::{Cut, Frame};
 use crate::numbers::{TMS5220, TMS5220C};
 use crate::rom::{frame_at, rated_frame_at, rated_walk, walk, Walked};
-use crate::sound::{run, step};
+use crate::sound::{run, step, Short};
 use crate::voice::voice_refusal;
 
 // trace: "A script is at most 1,048,576 bytes".
@@ -129,31 +129,32 @@ impl Player<'_, '_> {
         Some(writeln!(self.out, "V {}", voice_refusal(self.voice)))
     }
 
-    /// trace: "`F refusal bits FRAME`".
+    /// trace: "`F refusal bits FRAME`, CUT".
     fn frame_record(&mut self) -> Option<io::Result<()>> {
         let bit = self.script.u32()?;
         let taken = frame_at(self.image, bit);
-        Some(writeln!(self.out, "F {} {}{}", taken.refusal, taken.bits, frame_text(&taken.frame)))
+        let (frame, cut) = (frame_text(&taken.frame), cut_text(&taken.cut));
+        Some(writeln!(self.out, "F {} {}{frame}{cut}", taken.refusal, taken.bits))
     }
 
     /// trace: "`A refusal bits frames intervals samples part_length part_sum`
-    /// (sum of the part's bytes modulo 65,536)".
+    /// (sum of the part's bytes modulo 65,536), CUT".
     fn walk_record(&mut self) -> Option<io::Result<()>> {
         let address = self.script.u32()?;
         let walked = walk(self.image, address);
         Some(writeln!(self.out, "A{}", walk_text(self.image, &walked)))
     }
 
-    /// trace: "`G refusal bits FRAME rate`".
+    /// trace: "`G refusal bits FRAME rate`, CUT".
     fn rated_frame_record(&mut self) -> Option<io::Result<()>> {
         let v = i64::from(self.script.byte()?);
         let bit = self.script.u32()?;
         let taken = rated_frame_at(self.image, v, bit);
-        let frame = taken.frame;
-        Some(writeln!(self.out, "G {} {}{} {}", taken.refusal, taken.bits, frame_text(&frame), frame.rate))
+        let (frame, cut) = (frame_text(&taken.frame), cut_text(&taken.cut));
+        Some(writeln!(self.out, "G {} {}{frame} {}{cut}", taken.refusal, taken.bits, taken.frame.rate))
     }
 
-    /// trace: "`B`, then the numbers of `A`".
+    /// trace: "`B`, then the numbers of `A`, CUT".
     fn rated_walk_record(&mut self) -> Option<io::Result<()>> {
         let v = i64::from(self.script.byte()?);
         let rr = i64::from(self.script.byte()?);
@@ -214,18 +215,19 @@ impl Player<'_, '_> {
     }
 
     /// trace: "`T refusal sample report FRAME`, and what is said below, then
-    /// `C`": "§5 | rate".
+    /// `C`": "§5 | rate", "§4 | begun", "§4 | used", "§4 | missing".
     fn step_record(&mut self) -> Option<io::Result<()>> {
         let answer = step(self.image, self.voice, self.chip);
         self.chip = answer.chip;
         let line = writeln!(
             self.out,
-            "T {} {} {}{} {}",
+            "T {} {} {}{} {}{}",
             answer.refusal,
             answer.sample,
             answer.report,
             frame_text(&answer.frame),
-            answer.frame.rate
+            answer.frame.rate,
+            short_text(&answer.short)
         );
         Some(line.and_then(|()| self.chip_line()))
     }
@@ -257,11 +259,11 @@ impl Player<'_, '_> {
     }
 }
 
-/// trace: "refusal bits frames intervals samples part_length part_sum".
+/// trace: "refusal bits frames intervals samples part_length part_sum", CUT.
 fn walk_text(image: &[u8], walked: &Walked) -> String {
     let part = part(image, walked);
     let sum: i64 = part.iter().map(|byte| i64::from(*byte)).sum();
-    numbers_text(&[
+    let numbers = numbers_text(&[
         walked.refusal,
         walked.bits,
         walked.frames,
@@ -269,7 +271,8 @@ fn walk_text(image: &[u8], walked: &Walked) -> String {
         walked.samples,
         part.len() as i64,
         sum.rem_euclid(65_536),
-    ])
+    ]);
+    numbers + &cut_text(&walked.cut)
 }
 
 /// The walk's part of the image, empty when refused.
@@ -294,6 +297,16 @@ fn frame_text(frame: &Frame) -> String {
     let mut numbers = vec![frame.kind, frame.energy, frame.pitch];
     numbers.extend(&frame.k[1..=10]);
     numbers_text(&numbers)
+}
+
+/// trace: "CUT, from §4 on: `begun missing`".
+fn cut_text(cut: &Cut) -> String {
+    numbers_text(&[cut.begun, cut.missing])
+}
+
+/// trace: "begun used missing".
+fn short_text(short: &Short) -> String {
+    numbers_text(&[short.begun, short.used_up, short.missing])
 }
 
 /// The chip's 67 numbers, in the order of the trace format's table.
