@@ -9,6 +9,7 @@ from cases_looks import LOOK_TOPICS
 from cases_numbers import *
 from cases_rates import RATE_TOPICS
 from cases_rom import *
+from cases_short import SHORT_TOPICS
 from cases_sound import *
 from chips import chip
 from images import STOP, any_frames, pack
@@ -63,7 +64,7 @@ TOPICS = [numbers_walks, numbers_addresses, numbers_status, numbers_nine_ff, num
           numbers_voices, order_of_checks, frames_at_bits, walks, loads, restarts, read_bytes, every_command, statuses,
           ninth_byte, fifo_ends, interrupts, external_paces, spoken_kinds, rom_ends, image_changes, boundaries, interpolations,
           excitations, filters, state_edges, voice_faults, some_of_each_theme, longest_run, numbers_images]
-TOPICS += RATE_TOPICS + LOOK_TOPICS + HOLD_TOPICS
+TOPICS += RATE_TOPICS + LOOK_TOPICS + HOLD_TOPICS + SHORT_TOPICS
 
 
 def stored_script():

@@ -1,4 +1,4 @@
-"""Frames as bits, and the images that hold them (document 01, "Frames", and 02, §5)."""
+"""Frames as bits, and the images that hold them (document 01, "Frames", and 02, §5 and §4)."""
 
 K_BITS = [5, 5, 4, 4, 4, 4, 4, 3, 3, 3]
 MOST_IMAGE_BYTES = 262144
@@ -77,6 +77,28 @@ def any_changing_frames(pick, count, rated_ones):
         frame = pick.one_of(kinds + kinds[2:])
         text += rated(pick.below(4), frame) if rated_ones else frame
     return text
+
+
+def any_cut(pick, v):
+    """Some bits of a random frame, not all of them; often as many as there are where §4 counts on to another bound, one more or
+    one less."""
+    noise = unvoiced(pick.between(1, 14), [pick.below(2 ** width) for width in K_BITS[:4]])
+    frame = pick.one_of([STOP, noise, any_frame(pick), any_frame(pick), any_frame(pick)])
+    text = rated(pick.below(4), frame) if v else frame
+    present = pick.one_of([pick.below(len(text)), pick.one_of([0, 4, 11, 29, 50]) + 2 * v + pick.between(-1, 1)])
+    return text[:min(max(present, 0), len(text) - 1)]
+
+
+def any_row(pick, v, bits, most):
+    """Random whole frames other than a stop, each with its rate, which make whole bytes together with so many bits."""
+    row = [any_frame(pick) for _ in range(pick.below(most + 1))]
+    bits += sum(len(frame) + 2 * v for frame in row)
+    # silences and repeats make up each number of bits that may lack
+    fits = [(silences, repeats) for silences in range(4) for repeats in range(4)
+            if (bits + (4 + 2 * v) * silences + (11 + 2 * v) * repeats) % 8 == 0]
+    silences, repeats = fits[0]
+    row += [SILENCE] * silences + [repeat(pick.between(1, 14), pick.below(64)) for _ in range(repeats)]
+    return [(pick.below(4), frame) for frame in row]
 
 
 def damaged(pick, data):

@@ -537,13 +537,101 @@ def long_changing_runs(pick):
 OF_HOLDS = [holds_in_themes, changing_rom_speech, changing_external_speech, hold_states, long_changing_runs]
 
 
+# ---- frames that are cut
+
+def any_told_device(pick):
+    """v, rr, and a powered-up chip that has them; a TMS5220 has 0 and 0."""
+    v, rr = pick.below(2), pick.below(4)
+    if pick.chance(40):
+        return 0, 0, power_up()
+    return v, rr, power_up_c() + set_rate(pick, v, rr)
+
+
+def cut_speech(pick, v, rr, most):
+    """Whole frames and a cut one: their bytes, the bit at which the cut one begins, and the samples of each that is whole."""
+    cut = images.any_cut(pick, v)
+    row = images.any_row(pick, v, len(cut), most)
+    text = ''.join(images.rated(rate, frame) if v else frame for rate, frame in row)
+    lengths = [200 - 50 * (rate if v else rr) for rate, _ in row]
+    return images.pack(text + cut), len(text), lengths
+
+
+# Phrases that are cut, behind a few bytes or none, taken at bits, walked, and walked from elsewhere.
+def cut_phrases(pick):
+    v, rr = pick.below(2), pick.below(4)
+    data, begun, _ = cut_speech(pick, v, rr, 3)
+    address = pick.below(4)
+    out = image(pick.bytes(address) + data)
+    bits = [8 * address + begun, 8 * address + begun, 8 * address + pick.below(8 * len(data) + 2)]
+    for bit in bits:
+        out += rated_frame_at(v, bit) if v or pick.chance(40) else frame_at(bit)
+    for place in (address, address, pick.below(address + len(data) + 2)):
+        out += rated_walk(v, rr, place) if v or pick.chance(40) else walk(place)
+    return out
+
+
+# ROM speech up to a cut frame, its step called alone or in a run; at times the image is exchanged before it.
+def cut_rom_speech(pick):
+    v, rr, up = any_told_device(pick)
+    data, _, lengths = cut_speech(pick, v, rr, 2)
+    address = pick.below(3)
+    data = pick.bytes(address) + data
+    out = image(data or b'\0') + good_voice(pick) + up + load_address(address) + write(SPEAK)
+    out += run(sum(lengths)) if lengths else b''
+    if pick.chance(30):
+        out += image(pick.one_of([data[:pick.below(len(data) + 1)], data + pick.bytes(1), pick.bytes(2)]))
+    return out + pick.one_of([step(), step(2), step() + read(), run(2)]) + (rated_calls(pick, 2) if pick.chance(30) else b'')
+
+
+# External speech up to a cut frame, or up to a whole one that ends with the last byte.
+def cut_external_speech(pick):
+    v, rr, up = any_told_device(pick)
+    data, begun, lengths = cut_speech(pick, v, rr, 3)
+    while len(data) < 9:
+        data, begun, lengths = cut_speech(pick, v, rr, 3)
+    out = good_image(pick) + good_voice(pick) + up + write(SPEAK_EXTERNAL, *data[:16])
+    # with no bit of a cut frame the last whole one runs out
+    out += run(sum(lengths[:-1] if begun == 8 * len(data) else lengths)) + step() + write(*data[16:])
+    return out + (rated_calls(pick, 2) if pick.chance(30) else b'')
+
+
+# States before a frame: the position near the image's end, at it and past it; from one to seven bytes in the FIFO, of which a
+# frame is cut or ends with the last bit.
+def cut_states(pick):
+    v, device = pick.below(2), {}
+    if v or pick.chance(50):
+        device = {'device': states.TMS5220C, 'v': v, 'rr': pick.below(4)}
+    data, begun, _ = cut_speech(pick, v, 0, 1)
+    end = 8 * len(data)
+    out = image(data or b'\0') + (good_voice(pick) if pick.chance(40) else b'')
+    for _ in range(pick.between(1, 3)):
+        fields = {**states.any_sound(pick), 'sample': 0, 'interval': 0, 'interrupt': pick.below(2), **device}
+        if pick.chance(40):
+            far = pick.one_of([end, end + pick.below(20), LAST_POSITION, max(end - pick.below(55), 0)])
+            fields.update({'mode': states.ROM, 'position': pick.one_of([begun, begun, far])})
+        else:
+            frame = images.any_frame(pick)
+            text = images.any_cut(pick, v) or '1'
+            text = pick.one_of([text, text, text, images.rated(pick.below(4), frame) if v else frame])
+            used = -len(text) % 8
+            held = images.pack(pick.one_of('01') * used + text)
+            fields.update({states.FIFO[i]: byte for i, byte in enumerate(held)})
+            fields.update({'mode': states.EXTERNAL, 'level': len(held), 'used': used, 'position': pick.below(end + 9)})
+        out += state_of(states.powered_up(**fields)) + pick.one_of([step(), step(), step(2), run(1)])
+    return out
+
+
+OF_CUTS = [cut_phrases, cut_rom_speech, cut_external_speech, cut_states]
+
+
 def weighed(of, often):
     """A list of themes of the length of the first one; the theme that stands for many comes oftener."""
     return of + [often] * (len(OF_01) - len(of))
 
 
-# a fourth of the themes of a random script are of each list
+# a fifth of the themes of a random script are of each list
 ALL = OF_01 + weighed(OF_RATES, themes_of_01) + weighed(OF_LOOKS, looks_in_themes) + weighed(OF_HOLDS, hold_states)
+ALL += OF_CUTS * (len(OF_01) // len(OF_CUTS))
 
 
 def any_script(pick, size):
