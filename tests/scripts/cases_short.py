@@ -53,7 +53,7 @@ def powered(at, v):
 
 
 # "03 83: NO PHRASE": begun at bit 15, 3 missing, told by each call that meets it. A run over it tells nothing.
-def shortest_example():
+def cut_example():
     out = image(b'\x03\x83') + walk(0) + rated_walk(0, 2, 0) + frame_at(15) + rated_frame_at(0, 15) + rated_frame_at(1, 15)
     out += voice(voices.hushed(2)) + power_up_c() + write(frame_rate(0, RATE), SPEAK) + run(100) + step(2)
     return out + write(load(0), SPEAK) + run(101) + step()
@@ -85,7 +85,7 @@ def cut_rated_phrases():
     return out
 
 
-# Frames cut right behind their pitch and one bit before, each bit of which makes it another number than 0; the repeat bit too.
+# Frames cut right behind their pitch and one bit before its end: a pitch of 0, one with each of its bits alone, and a repeat bit.
 def cut_pitches():
     out = b''
     for head in [unvoiced(9, KS[:4])[:11], repeat(9, 0)] + [voiced(9, 1 << bit, KS)[:11] for bit in range(6)]:
@@ -129,8 +129,8 @@ def short_images():
     return out
 
 
-# External speech that runs out behind whole frames, with all its bytes written; where it ends with a frame, nothing is missing
-# and the stop is taken.
+# External speech that runs out behind whole frames, all its bytes written. Where the bits end with a whole frame nothing is
+# missing; a stop there is taken.
 def cut_external_speech():
     out = image(b'\x00') + voice(voices.hushed(2))
     for v, cuts in ((0, {VOICED: (1, 4, 11, 29), UNVOICED: (11, 29), REPEAT: (8, 11), SILENT: (4,), STOPPED: (4,)}),
@@ -177,5 +177,5 @@ def some_of_each_short_theme():
     return out
 
 
-SHORT_TOPICS = [shortest_example, cut_phrases, cut_rated_phrases, cut_pitches, cut_rom_speech, short_images,
-                cut_external_speech, cut_fifo, short_refusals, some_of_each_short_theme]
+SHORT_TOPICS = [cut_example, cut_phrases, cut_rated_phrases, cut_pitches, cut_rom_speech, short_images, cut_external_speech,
+                cut_fifo, short_refusals, some_of_each_short_theme]

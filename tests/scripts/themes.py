@@ -587,11 +587,11 @@ def cut_rom_speech(pick):
 def cut_external_speech(pick):
     v, rr, up = any_told_device(pick)
     data, begun, lengths = cut_speech(pick, v, rr, 3)
-    while len(data) < 9:
+    while not 9 <= len(data) <= states.FIFO_BYTES:
         data, begun, lengths = cut_speech(pick, v, rr, 3)
-    out = good_image(pick) + good_voice(pick) + up + write(SPEAK_EXTERNAL, *data[:16])
+    out = good_image(pick) + good_voice(pick) + up + write(SPEAK_EXTERNAL, *data)
     # with no bit of a cut frame the last whole one runs out
-    out += run(sum(lengths[:-1] if begun == 8 * len(data) else lengths)) + step() + write(*data[16:])
+    out += run(sum(lengths[:-1] if begun == 8 * len(data) else lengths)) + step()
     return out + (rated_calls(pick, 2) if pick.chance(30) else b'')
 
 
