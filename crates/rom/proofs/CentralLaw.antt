@@ -2,6 +2,7 @@
 -- its bits.
 -- Assumes nothing.
 use mathlib.Core.Path.{_≡_, refl, sym, ap, _∙_, subst}
+use mathlib.Core.Logic.{_↔_}
 use mathlib.Core.List.{List, [], _∷_}
 use Prim.Native.Nat.{ℕ, _+_, _*_, _≤_, _<_}
 use native.Mathlib.Nat.{add-zero}
@@ -9,7 +10,7 @@ use native.Mathlib.Omega.{arith}
 use lib.ListN.{length}
 use Rattle.rom.specs.Bits.{field, Begins}
 use Rattle.rom.specs.Frames.{fieldsOf, OfKind, Proper, bitsOf, bitCount}
-use Rattle.rom.specs.Reader.{headAt, frameOf, decoded, frameAt}
+use Rattle.rom.specs.Reader.{headAt, frameOf, decoded, frameFrom}
 use Rattle.rom.specs.Theorems.{CentralLaw}
 use Rattle.rom.specs.declared.frames.Frame.{Frame}
 use Rattle.rom.specs.declared.frames.Frame.the-variants.{Silence, Stop, Repeat, Unvoiced, Voiced}
@@ -95,17 +96,22 @@ module _ (P : ℕ) (s : List ℕ) (at : ℕ) where
   bits-counted : (f : Frame) → length (bitsOf P f) ≡ bitCount P f
   bits-counted f = length-encoded (fieldsOf P f)
 
-  sound : (f : Frame) (n : ℕ) → frameAt P s at ≡ Whole f n → Proper P f × Begins s at (bitsOf P f) × (n ≡ at + length (bitsOf P f))
+  sound : (begun : ℕ) (f : Frame) (n : ℕ) → frameFrom P s begun at ≡ Whole f n → Proper P f × Begins s at (bitsOf P f) × (n ≡ at + length (bitsOf P f))
   unfolding Good
-  sound f n h =
-      let w = whole-decoded P s at (sym h) in
+  sound begun f n h =
+      let w = whole-decoded P s at begun (sym h) in
       let g = subst Good (sym (w .0)) decoded-good (omega (arith, w .1, w .2)) in
       (g .0, g .1, rw bits-counted (w .1))
 
-  complete : (f : Frame) → Proper P f → Begins s at (bitsOf P f) → frameAt P s at ≡ Whole f (at + length (bitsOf P f))
-  complete f k h =
+  complete : (begun : ℕ) (f : Frame) → Proper P f → Begins s at (bitsOf P f) → frameFrom P s begun at ≡ Whole f (at + length (bitsOf P f))
+  complete begun f k h =
       let d = decoded-is f (k .1) (reads s at 0 (fieldsOf P f) (k .0) (rw add-zero h)) in
-      sym (whole-is P s at (bits-counted f ∙ ap (bitCount P) d) d (begins-room s at (bitsOf P f) h))
+      sym (whole-is P s at begun (bits-counted f ∙ ap (bitCount P) d) d (begins-room s at (bitsOf P f) h))
+
+-- wherever a prefix begins
+pub central-from : (P : ℕ) (s : List ℕ) (begun at : ℕ) (f : Frame) (n : ℕ)
+    → (frameFrom P s begun at ≡ Whole f n) ↔ (Proper P f × Begins s at (bitsOf P f) × (n ≡ at + length (bitsOf P f)))
+central-from P s begun at f n = (sound P s at begun f n, λ h. complete P s at begun f (h .0) (h .1) ∙ ap (Whole f) (sym (h .2)))
 
 pub central-law : CentralLaw
-central-law P s at f n = (sound P s at f n, λ h. complete P s at f (h .0) (h .1) ∙ ap (Whole f) (sym (h .2)))
+central-law P s at = central-from P s at at

@@ -29,7 +29,7 @@ four-bits P f = omega (arith, length-encoded (fieldsOf P f), bit-count-least P f
 
 is-whole : {r : FrameAnswer} {f : Frame} {n : ℕ} → itemAnswerOf r ≡ whole f n → r ≡ Whole f n
 is-whole {r = Whole g m} e = cc
-is-whole {r = Cut} e = let z : _≡_ {A = ℕ} 0 1 = cc in absurd (omega arith)
+is-whole {r = Cut h} e = let z : _≡_ {A = ℕ} 0 1 = cc in absurd (omega arith)
 
 pub frames-lawful : (P : ℕ) (s : List ℕ) → Lawful (frameCode P) s (λ at. itemAnswerOf (frameAt P s at))
 frames-lawful P s = record {

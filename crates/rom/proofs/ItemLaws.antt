@@ -10,6 +10,7 @@ use native.Mathlib.Omega.{arith}
 use lib.ListN.{length, length-append}
 use Rattle.base.proofs.Booleans.{either-way, by-test}
 use Rattle.rom.specs.Items.{Code, ItemAnswer, whole, cut, Lawful, bitsAll, Encoded, Ended, last, more, Phrase, There, phrase, none, itemsOf, itemsFrom, hasStop}
+use Rattle.rom.specs.declared.reader.Shortfall.{Shortfall}
 use Rattle.rom.proofs.Encoding.{begins-room, begins-join, begins-split}
 
 pub has-stop : {C : Code} {fs : List (C .Item)} → Ended C fs → hasStop C fs ≡ true
@@ -48,7 +49,7 @@ module _ (C : Code) (s : List ℕ) (read : ℕ → ItemAnswer (C .Item)) (lawful
 
   -- the items from a bit on, by what is read there
   data Step (at n : ℕ) : List (C .Item) → Type 0 where
-    nothing : read at ≡ cut → Step at n []
+    nothing : {h : Shortfall} → read at ≡ cut h → Step at n []
     stop : {f : C .Item} {m : ℕ} → read at ≡ whole f m → C .stops f ≡ true → Step at n (f ∷ [])
     item : {f : C .Item} {m : ℕ} → read at ≡ whole f m → C .stops f ≡ false → Step at n (f ∷ itemsFrom C read m n)
 
@@ -57,7 +58,7 @@ module _ (C : Code) (s : List ℕ) (read : ℕ → ItemAnswer (C .Item)) (lawful
   step at n = go (read at) refl
     where
       go : (r : ItemAnswer (C .Item)) → read at ≡ r → Step at n (itemsOf C r (λ next. itemsFrom C read next n))
-      go cut e = nothing e
+      go (cut h) e = nothing e
       go (whole f m) e = by-test (λ l. Step at n (f ∷ l)) (C .stops f) (λ t. stop e t) (λ t. item e t)
 
   -- the image's bits begin with those of the items that are read

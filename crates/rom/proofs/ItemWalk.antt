@@ -10,19 +10,21 @@ use native.Mathlib.Omega.{arith}
 use borrow.Author.Tests.{eqb-true, eqb-false}
 use lib.Dec.{eqb}
 use lib.ListN.{length, length-append}
-use Rattle.base.specs.Refusals.{TAKEN, NO-PHRASE, firstFault, unlessFault}
+use Rattle.base.specs.Refusals.{TAKEN, firstFault, unlessFault}
 use Rattle.base.proofs.Booleans.{either-way}
 use Rattle.base.proofs.Faults.{NoneApplies, Numbered, none-applies, faultless}
-use Rattle.rom.specs.Items.{Code, ItemAnswer, whole, cut, Lawful, bitsAll, Ended, Phrase, itemsFrom, hasStop, sumOf}
-use Rattle.rom.specs.Phrases.{walkRefused}
+use Rattle.rom.specs.Items.{Code, ItemAnswer, whole, cut, Lawful, bitsAll, Ended, Phrase, There, itemsFrom, hasStop, sumOf}
+use Rattle.rom.specs.Phrases.{walkRefused, walkCut}
+use Rattle.rom.specs.declared.reader.Shortfall.{Shortfall}
 use Rattle.rom.specs.declared.phrases.Walked.{Walked}
 use Rattle.rom.proofs.Encoding.{begins-room}
-use Rattle.rom.proofs.ItemLaws.{next-in, phrase-found}
+use Rattle.rom.proofs.ItemLaws.{next-in, phrase-found, there-read}
 
-module _ {W : Type 0} (C : Code) (of : C .Item → ℕ) (accept : ℕ → ℕ → ℕ → W) (refused : W) where
+module _ {W : Type 0} (C : Code) (of : C .Item → ℕ) (accept : ℕ → ℕ → ℕ → W) (refused : ℕ → W) where
   -- what a walk over items returns, which follow b bits, k items and the sum t
   abbrev pub walkedOn : ℕ → ℕ → ℕ → List (C .Item) → W
-  walkedOn b k t is = cond (hasStop C is) (accept (b + length (bitsAll C is)) (k + length is) (t + sumOf of is)) refused
+  walkedOn b k t is =
+      cond (hasStop C is) (accept (b + length (bitsAll C is)) (k + length is) (t + sumOf of is)) (refused (b + length (bitsAll C is)))
 
   module _ (s : List ℕ) (read : ℕ → ItemAnswer (C .Item)) (lawful : Lawful C s read) (start : ℕ) where
     -- all items from bit `start` on
@@ -42,13 +44,13 @@ module _ {W : Type 0} (C : Code) (of : C .Item → ℕ) (accept : ℕ → ℕ �
         record { passed = omega arith; inside = h; rest = rw (e, d) refl }
 
     module _ {at k t : ℕ} (h : Come at k t) where
-      pub come-cut : read at ≡ cut → refused ≡ walkedOn 0 0 0 all
+      pub come-cut : {x : Shortfall} → read at ≡ cut x → refused (at - start) ≡ walkedOn 0 0 0 all
       unfolding itemsFrom
       come-cut c = sym (h .rest ∙ go (8 * length s - k))
         where
-          go : (m : ℕ) → walkedOn (at - start) k t (itemsFrom C read at m) ≡ refused
-          go zero = refl
-          go (suc m) = rw c
+          go : (m : ℕ) → walkedOn (at - start) k t (itemsFrom C read at m) ≡ refused (at - start)
+          go zero = ap refused (omega arith)
+          go (suc m) = rw c (ap refused (omega arith))
 
       module _ {i : C .Item} {n : ℕ} (w : read at ≡ whole i n) where
         -- the item's bits, at least one, end in the image
@@ -101,20 +103,23 @@ module _ (C : Code) (s : List ℕ) (read : ℕ → ItemAnswer (C .Item)) (lawful
   pub one-phrase : (is js : List (C .Item)) → Phrase C s (8 * a) is → Phrase C s (8 * a) js → is ≡ js
   one-phrase is js p q = let f = found (phrase-inside p) in sym (f is .0 p .0) ∙ f js .0 q .0
 
-  module _ (accept : List (C .Item) → Walked) (taken : (is : List (C .Item)) → accept is .refusal ≡ TAKEN)
+  module _ (accept : List (C .Item) → Walked) (taken : (is : List (C .Item)) → accept is .refusal ≡ TAKEN) (short : List (C .Item) → Shortfall)
       (faults : List (Bool × ℕ)) (numbered : Numbered faults) (inside : NoneApplies faults → a < length s) where
     abbrev there : List (C .Item)
     there = itemsFrom C read (8 * a) (8 * length s)
 
     abbrev walked : Walked
-    walked = unlessFault (firstFault faults) walkRefused (cond (hasStop C there) (accept there) (walkRefused NO-PHRASE))
+    walked = unlessFault (firstFault faults) walkRefused (cond (hasStop C there) (accept there) (walkCut (short there)))
 
     pub counts : NoneApplies faults → {is : List (C .Item)} → Phrase C s (8 * a) is → walked ≡ accept is
     counts n {is} p = let f = found (phrase-inside p) is .0 p in rw (faultless faults n, f .0, f .1)
 
-    pub refuses : NoneApplies faults → ((is : List (C .Item)) → Phrase C s (8 * a) is → ⊥) → walked ≡ walkRefused NO-PHRASE
-    refuses n none =
-        rw (faultless faults n) (either-way (hasStop C there) (λ t. absurd (none _ (found (inside n) _ .1 (refl, t)))) (λ t. rw t))
+    pub refuses : NoneApplies faults → ((is : List (C .Item)) → Phrase C s (8 * a) is → ⊥) → {is : List (C .Item)} → There C s (8 * a) is
+        → walked ≡ walkCut (short is)
+    refuses n none {is} t =
+        let e = there-read C s read lawful (8 * a) (omega (arith, inside n)) is .0 t in
+        rw (faultless faults n)
+        (either-way (hasStop C there) (λ t. absurd (none _ (found (inside n) _ .1 (refl, t)))) (λ t. rw t (ap (λ l. walkCut (short l)) e)))
 
     pub accepts : (walked .refusal ≡ TAKEN) ↔ (NoneApplies faults × ((is : List (C .Item)) × Phrase C s (8 * a) is))
     accepts = (from, λ h. ap (λ (w : Walked). w .refusal) (counts (h .0) (h .1 .1)) ∙ taken (h .1 .0))

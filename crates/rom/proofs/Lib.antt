@@ -13,3 +13,4 @@ pub mod WholeFrame
 pub mod Walking
 pub mod Theorems
 pub mod Prefixed
+pub mod Shortfalls

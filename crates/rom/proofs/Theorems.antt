@@ -12,9 +12,11 @@ use Rattle.base.specs.Refusals.{IMAGE, BEYOND}
 use Rattle.base.proofs.Faults.{NoneApplies, answered, refused-with}
 use Rattle.rom.specs.Bits.{imageValid, imageFault, imageLimit}
 use Rattle.rom.specs.Items.{bitsAll}
+use Rattle.rom.specs.Reader.{shortOf}
 use Rattle.rom.specs.Phrases.{frameCode, PhraseAt, framesAt, walkAccepted, walkedOver, walkOf, walkRefused, partOf, phraseOf}
 use Rattle.rom.specs.Theorems.{WalkAccepts, WalkCounts, WalkRefuses, PhraseUnique, FramesRead}
 use Rattle.rom.specs.declared.frames.Frame.{Frame}
+use Rattle.rom.specs.declared.reader.Shortfall.{Shortfall}
 use Rattle.rom.specs.declared.phrases.Walked.{Walked}
 use Rattle.rom.proofs.Checks.{valid-length}
 use Rattle.rom.proofs.FrameCode.{frames-lawful}
@@ -29,6 +31,10 @@ module _ (P : ℕ) (s : List ℕ) (a : ℕ) where
   abbrev accept : List Frame → Walked
   accept fs = walkAccepted (length (bitsAll (frameCode P) fs)) (length fs)
 
+  -- how short the image is of the frame after some frames
+  abbrev short : List Frame → Shortfall
+  short fs = let begun = 8 * a + length (bitsAll (frameCode P) fs) in shortOf P s begun begun
+
   abbrev faults : List (Bool × ℕ)
   faults = (not (imageValid s), IMAGE) ∷ (leb (length s) a, BEYOND) ∷ []
 
@@ -41,19 +47,19 @@ module _ (P : ℕ) (s : List ℕ) (a : ℕ) where
 pub walk-counts : WalkCounts
 unfolding walkOf
 walk-counts P s a fs v p =
-    walk.counts (frameCode P) s _ (frames-lawful P s) a (accept P s a) (λ fs. refl) (faults P s a) tt (inside P s a)
+    walk.counts (frameCode P) s _ (frames-lawful P s) a (accept P s a) (λ fs. refl) (short P s a) (faults P s a) tt (inside P s a)
     (none P s a v (phrase-inside P s a p)) p
 
 pub walk-accepts : WalkAccepts
 unfolding walkOf
 walk-accepts P s a =
-    let h = walk.accepts (frameCode P) s _ (frames-lawful P s) a (accept P s a) (λ fs. refl) (faults P s a) tt (inside P s a) in
+    let h = walk.accepts (frameCode P) s _ (frames-lawful P s) a (accept P s a) (λ fs. refl) (short P s a) (faults P s a) tt (inside P s a) in
     (λ e. let r = h .0 e in (not-false _ (r .0 .0), r .1), λ r. h .1 (none P s a (r .0) (phrase-inside P s a (r .1 .1)), r .1))
 
 pub walk-refuses : WalkRefuses
 unfolding walkOf
-walk-refuses P s a v i n =
-    walk.refuses (frameCode P) s _ (frames-lawful P s) a (accept P s a) (λ fs. refl) (faults P s a) tt (inside P s a) (none P s a v i) n
+walk-refuses P s a v i n fs t =
+    walk.refuses (frameCode P) s _ (frames-lawful P s) a (accept P s a) (λ fs. refl) (short P s a) (faults P s a) tt (inside P s a) (none P s a v i) n t
 
 pub phrase-unique : PhraseUnique
 phrase-unique P s a = walk.one-phrase (frameCode P) s _ (frames-lawful P s) a
@@ -69,7 +75,7 @@ module _ (P : ℕ) (s : List ℕ) (a : ℕ) where
     unfolding walkOf
     walk-refused r h = refused-with e walkRefused _ h r
 
-    pub walk-answered : w ≡ walkedOver P (framesAt P s a) → n ≡ 0 → w ≡ walkOf P s a
+    pub walk-answered : w ≡ walkedOver P s (8 * a) (framesAt P s a) → n ≡ 0 → w ≡ walkOf P s a
     unfolding walkOf
     walk-answered r h = answered e walkRefused _ h r
 

@@ -7,12 +7,12 @@ use native.Mathlib.Omega.{arith}
 use lib.ListN.{length}
 use Rattle.rom.specs.Bits.{Begins}
 use Rattle.rom.specs.Frames.{fieldsOf, Proper, bitsOf, bitCount}
-use Rattle.rom.specs.Reader.{frameAt}
+use Rattle.rom.specs.Reader.{frameFrom}
 use Rattle.rom.specs.declared.frames.Frame.{Frame}
 use Rattle.rom.specs.declared.reader.FrameAnswer.{FrameAnswer}
 use Rattle.rom.specs.declared.reader.FrameAnswer.the-variants.{Whole}
 use Rattle.rom.proofs.Encoding.{length-encoded, begins-room}
-use Rattle.rom.proofs.CentralLaw.{central-law}
+use Rattle.rom.proofs.CentralLaw.{central-from}
 use Rattle.rom.proofs.FrameCode.{four-bits}
 
 -- f stands at bit `at` of s, proper and whole, and `next` is the bit after it
@@ -24,10 +24,10 @@ pub record WholeFrame (P : ℕ) (s : List ℕ) (at : ℕ) (f : Frame) (next : �
   pub inside : next ≤ 8 * length s
   pub further : at + 4 ≤ next
 
-pub whole-frame : (P : ℕ) (s : List ℕ) (at : ℕ) {a : FrameAnswer} {f : Frame} {next : ℕ} → a ≡ frameAt P s at → a ≡ Whole f next
+pub whole-frame : (P : ℕ) (s : List ℕ) (begun at : ℕ) {a : FrameAnswer} {f : Frame} {next : ℕ} → a ≡ frameFrom P s begun at → a ≡ Whole f next
     → WholeFrame P s at f next
-whole-frame P s at {f = f} {next} e w =
-    let l = central-law P s at f next .0 (sym e ∙ w) in
+whole-frame P s begun at {f = f} {next} e w =
+    let l = central-from P s begun at f next .0 (sym e ∙ w) in
     record {
       proper = l .0;
       begins = l .1;

@@ -104,3 +104,15 @@ part-fits x {w} h = omega (arith, mod-lt x (pow-pos w), pow-mono h)
 -- the divisor that leaves w bits
 pub one-shifted : (w : ℕ) → w ≤ 8 → (1 * 2 ^ w) % 2 ^ 64 ≡ 2 ^ w
 one-shifted w h = rw (shl-exact {a = 1} 1 w 64 (lit< tt) (omega arith), one-mul)
+
+-- a word without its first k bits, moved up by as many, has what follows them at its top
+pub lifted : (x k : ℕ) → x < 2 ^ 32 → k ≤ 7 → x * 2 ^ k % 2 ^ 64 % 2 ^ 32 / 2 ^ 7 ≡ x / 2 ^ (7 - k) % 2 ^ 25
+lifted x zero h l = omega arith
+lifted x (suc zero) h l = omega arith
+lifted x (suc (suc zero)) h l = omega arith
+lifted x (suc (suc (suc zero))) h l = omega arith
+lifted x (suc (suc (suc (suc zero)))) h l = omega arith
+lifted x (suc (suc (suc (suc (suc zero))))) h l = omega arith
+lifted x (suc (suc (suc (suc (suc (suc zero)))))) h l = omega arith
+lifted x (suc (suc (suc (suc (suc (suc (suc zero))))))) h l = omega arith
+lifted x (suc (suc (suc (suc (suc (suc (suc (suc k)))))))) h l = absurd (omega arith)

@@ -7,6 +7,7 @@ use mathlib.Core.List.{List, [], _∷_, _++_}
 use Prim.Native.Nat.{ℕ, zero, suc, _+_, _≤_, _<_}
 use lib.ListN.{length}
 use Rattle.rom.specs.Bits.{Begins}
+use Rattle.rom.specs.declared.reader.Shortfall.{Shortfall}
 
 -- items with bits; a proper item is one that the code has, so that its bits say which it is
 pub record Code : Type 1 where
@@ -15,10 +16,10 @@ pub record Code : Type 1 where
   pub bits : Item → List ℕ
   pub stops : Item → Bool
 
--- what a reader returns at a bit: a whole item and the bit after it, or that the bits end
+-- what a reader returns at a bit: a whole item and the bit after it, or how short the bits are
 pub data ItemAnswer (A : Type 0) : Type 0 where
   whole : A → ℕ → ItemAnswer A
-  cut : ItemAnswer A
+  cut : Shortfall → ItemAnswer A
 
 module _ (C : Code) where
   -- the central law, of any reader and its items: it returns a whole item exactly when the item is proper and its bits stand
@@ -65,7 +66,7 @@ module _ (C : Code) where
 
   -- the items that begin with what a reader returns: none, the stop alone, or the item and those from the bit after it on
   abbrev pub itemsOf : ItemAnswer (C .Item) → (ℕ → List (C .Item)) → List (C .Item)
-  itemsOf cut after = []
+  itemsOf (cut h) after = []
   itemsOf (whole f next) after = f ∷ cond (C .stops f) [] (after next)
 
   -- the items read from bit `at` on, through the first stop or up to where the bits end; at most n

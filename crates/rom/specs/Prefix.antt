@@ -5,7 +5,7 @@ use mathlib.Core.List.{List, _++_}
 use Prim.Native.Nat.{ℕ, _+_, _^_, _<_}
 use Rattle.rom.specs.Bits.{field, digits}
 use Rattle.rom.specs.Frames.{bitsOf, Proper, isStop}
-use Rattle.rom.specs.Reader.{frameAt}
+use Rattle.rom.specs.Reader.{frameFrom}
 use Rattle.rom.specs.Items.{Code, ItemAnswer, whole, cut}
 use Rattle.rom.specs.declared.frames.Frame.{Frame}
 use Rattle.rom.specs.declared.reader.FrameAnswer.{FrameAnswer}
@@ -23,8 +23,8 @@ prefixedCode Q P = record {
 -- the frame answer after a prefix of value q, as that of an item
 abbrev pub withPrefix : ℕ → FrameAnswer → ItemAnswer (ℕ × Frame)
 withPrefix q (Whole f next) = whole (q, f) next
-withPrefix q Cut = cut
+withPrefix q (Cut h) = cut h
 
 -- the reader of a prefix and its frame
 abbrev pub readPrefixed : ℕ → ℕ → List ℕ → ℕ → ItemAnswer (ℕ × Frame)
-readPrefixed Q P s at = withPrefix (field s at Q) (frameAt P s (at + Q))
+readPrefixed Q P s at = withPrefix (field s at Q) (frameFrom P s at (at + Q))

@@ -2,8 +2,8 @@
 -- the pitch field.
 use mathlib.Core.Bool.{cond}
 use mathlib.Core.List.{List}
-use Prim.Native.Nat.{ℕ, _+_, _*_}
-use lib.Dec.{eqb, leb}
+use Prim.Native.Nat.{ℕ, _+_, _*_, _-_, max}
+use lib.Dec.{eqb, leb, ltb}
 use lib.ListN.{length}
 use Rattle.base.specs.Refusals.{TAKEN, NO-PHRASE, unlessFault}
 use Rattle.rom.specs.Bits.{field, imageFault}
@@ -17,6 +17,7 @@ use Rattle.rom.specs.declared.head.Kind.the-variants.{Silence, Stop, Rep
 use Rattle.rom.specs.declared.reader.FrameAnswer.{FrameAnswer}
 use Rattle.rom.specs.declared.reader.FrameAnswer.the-variants.{Whole, Cut}
 use Rattle.rom.specs.declared.reader.FrameTaken.{FrameTaken}
+use Rattle.rom.specs.declared.reader.Shortfall.{Shortfall}
 
 -- the unvoiced frame whose K1 to K4 stand from bit `at` on
 abbrev pub unvoicedAt : List ℕ → ℕ → ℕ → Frame
@@ -68,21 +69,54 @@ frameOf Voiced h s k = voicedAt s k (h .energy) (h .pitch)
 unfoldable pub decoded : ℕ → List ℕ → ℕ → Frame
 decoded P s at = let h = headAt P s at in frameOf (kindOf h) h s (at + 5 + P)
 
--- a frame is taken whole, with the bit after it, or the image ends inside it or before it
-unfoldable pub frameAt : ℕ → List ℕ → ℕ → FrameAnswer
-frameAt P s at =
+-- ---- how short the bits are (02, §4)
+
+-- the bit up to which a frame at bit `at`, which would end at bit `next`, is counted where the bits end at bit `end`: a cut energy up to
+-- 4 of its bits, a cut repeat or pitch up to 11; later the kind is known
+abbrev pub countedTo : ℕ → ℕ → ℕ → ℕ → ℕ
+countedTo P at next end = cond (ltb end (at + 4)) (at + 4) (cond (ltb end (at + 5 + P)) (at + 5 + P) next)
+
+-- the same with its prefix, which begins at bit `begun`. Where not even the first bit is there, all that are counted are missing, even
+-- past the image's end
+abbrev pub cutAt : ℕ → ℕ → ℕ → ℕ → ℕ → Shortfall
+cutAt P begun at next end = let there = max begun end in record { begun = begun; missing = countedTo P at next there - there }
+
+-- how short the image s is of the frame at bit `at`
+unfoldable pub shortOf : ℕ → List ℕ → ℕ → ℕ → Shortfall
+shortOf P s begun at = cutAt P begun at (at + bitCount P (decoded P s at)) (8 * length s)
+
+-- zeros, where nothing is cut
+abbrev pub noShortfall : Shortfall
+noShortfall = record { begun = 0; missing = 0 }
+
+-- what an answer tells of it
+abbrev pub shortfallOf : FrameAnswer → Shortfall
+shortfallOf (Whole f next) = noShortfall
+shortfallOf (Cut h) = h
+
+-- ---- the reader
+
+-- a frame is taken whole, with the bit after it, or the image ends inside it or before it. It stands at bit `at`, and with its prefix it
+-- begins at bit `begun`
+unfoldable pub frameFrom : ℕ → List ℕ → ℕ → ℕ → FrameAnswer
+frameFrom P s begun at =
     let f = decoded P s at in
-    cond (leb (at + bitCount P f) (8 * length s)) (Whole f (at + bitCount P f)) Cut
+    cond (leb (at + bitCount P f) (8 * length s)) (Whole f (at + bitCount P f)) (Cut (shortOf P s begun at))
 
--- a refused call: no frame, and zero for each number
-abbrev pub noFrame : ℕ → FrameTaken
-noFrame n = record { refusal = n; frame = None; bits = 0 }
+-- without a prefix
+abbrev pub frameAt : ℕ → List ℕ → ℕ → FrameAnswer
+frameAt P s at = frameFrom P s at at
 
--- what the operation returns for each frame answer: 0 with the frame and its bits, or 10
+-- a refused call: no frame, and zero for each number but those of number 10
+abbrev pub noFrame : ℕ → Shortfall → FrameTaken
+noFrame n h = record { refusal = n; frame = None; bits = 0; short = h }
+
+-- what the operation returns for each frame answer: 0 with the frame and its bits, or 10 with how short the image is
 abbrev pub takenOf : ℕ → FrameAnswer → FrameTaken
-takenOf P (Whole f next) = record { refusal = TAKEN; frame = Some f; bits = bitCount P f }
-takenOf P Cut = noFrame NO-PHRASE
+takenOf P (Whole f next) = record { refusal = TAKEN; frame = Some f; bits = bitCount P f; short = noShortfall }
+takenOf P (Cut h) = noFrame NO-PHRASE h
 
 -- the frame taken at a bit of an image, refused at or past its end
 unfoldable pub frameTakenOf : ℕ → List ℕ → ℕ → FrameTaken
-frameTakenOf P s bit = unlessFault (imageFault s (leb (8 * length s) bit)) noFrame (takenOf P (frameAt P s bit))
+frameTakenOf P s bit =
+    unlessFault (imageFault s (leb (8 * length s) bit)) (λ n. noFrame n noShortfall) (takenOf P (frameAt P s bit))

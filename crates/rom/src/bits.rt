@@ -102,12 +102,16 @@ pub(crate) const NARROW: usize = 25;
 // The bits of a wide one: as many as eight bytes have, and more than a frame has.
 pub(crate) const WIDE: usize = 57;
 
-// The narrow window at bit `at`: the number in the 25 bits from there on, the first the most significant.
+// One more than the largest word.
+const WORD: u64 = 4294967296;
+
+// The narrow window at bit `at`: the number in the 25 bits from there on, the first the most significant. The word is moved up to them and
+// not down, which spares the walk an instruction a frame.
 pub fn narrow_at(s: &[u8], at: usize) -> u64
     requires { ⌜ at ≤ 2 ^ 32 ⌝ }
     ensures { λ r. ⌜ Window narrow (now (s .entry)) at r ⌝ }
 {
-    (be32(s, at / 8) >> (7 - at % 8)) % (1 << NARROW)
+    ((be32(s, at / 8) << (at % 8)) % WORD) >> (32 - NARROW)
 }
 
 // The wide window at bit `at`.

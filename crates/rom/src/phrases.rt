@@ -4,7 +4,7 @@ ghost use Prim.Native.Nat.{_+_, _*_, _≤_};
 ghost use lib.ListN.{length};
 ghost use Rattle.rom.specs.Bits.{imageLimit};
 ghost use Rattle.rom.specs.Frames.{pitchBits};
-ghost use Rattle.rom.specs.Phrases.{walkRefused, walkAccepted, framesFrom, walkedOver, walkOf, partOf, phraseOf};
+ghost use Rattle.rom.specs.Phrases.{walkRefusedWith, walkRefused, walkCut, walkAccepted, framesFrom, walkedOver, walkOf, partOf, phraseOf};
 use crate::bits::image_fault;
 use crate::bits::narrow_at;
 use crate::bits::wide_at;
@@ -12,6 +12,7 @@ use crate::frames::PITCH_BITS;
 use crate::frames::is_stop;
 use crate::head::head_of;
 use crate::reader::FrameAnswer;
+use crate::reader::Shortfall;
 use crate::reader::frame_in;
 use base::refusal::NO_PHRASE;
 use base::refusal::TAKEN;
@@ -19,19 +20,19 @@ use base::units::Frames;
 use base::units::Intervals;
 use base::units::Samples;
 
-// What a walk returns: the refusal number, and the phrase's bits, frames and duration. The number of frames is the duration
-// in frames.
+// What a walk returns: the refusal number, and the phrase's bits, frames and duration; with 10, how short the image is. The number of
+// frames is the duration in frames.
 pub struct Walked {
     pub refusal: u8,
     pub bits: usize,
     pub frames: Frames,
     pub intervals: Intervals,
     pub samples: Samples,
+    pub short: Shortfall,
 }
 
-// A refused walk.
-pub fn refuse(refusal: u8) -> Walked
-    ensures { λ r. ⌜ r ≡ walkRefused refusal ⌝ }
+fn refuse_with(refusal: u8, short: Shortfall) -> Walked
+    ensures { λ r. ⌜ r ≡ walkRefusedWith refusal short ⌝ }
 {
     Walked {
         refusal,
@@ -39,7 +40,22 @@ pub fn refuse(refusal: u8) -> Walked
         frames: Frames::of(0),
         intervals: Intervals::of(0),
         samples: Samples::of(0),
+        short,
     }
+}
+
+// A refused walk.
+pub fn refuse(refusal: u8) -> Walked
+    ensures { λ r. ⌜ r ≡ walkRefused refusal ⌝ }
+{
+    refuse_with(refusal, Shortfall::none())
+}
+
+// A walk refused with 10.
+pub fn refuse_cut(short: Shortfall) -> Walked
+    ensures { λ r. ⌜ r ≡ walkCut short ⌝ }
+{
+    refuse_with(NO_PHRASE, short)
 }
 
 fn accept(bits: usize, count: u32) -> Walked
@@ -54,6 +70,7 @@ fn accept(bits: usize, count: u32) -> Walked
         frames,
         intervals,
         samples,
+        short: Shortfall::none(),
     }
 }
 
@@ -61,15 +78,22 @@ fn accept(bits: usize, count: u32) -> Walked
 // compiler takes each of the calls into this loop, but not all in one, and leaves out the wide window, whose K nobody asks for.
 fn walk_from(image: &[u8], start: usize, pitch_bits: usize) -> Walked
     requires { ⌜ («pitch_bits» ≤ 8) × (length (now image) ≤ imageLimit) × (start ≤ 8 * length (now image)) ⌝ }
-    ensures { λ r. ⌜ r ≡ walkedOver «pitch_bits» (framesFrom «pitch_bits» (now (image .entry)) start (8 * length (now (image .entry)))) ⌝ }
+    ensures { λ r. ⌜ r ≡ walkedOver «pitch_bits» (now (image .entry)) start (framesFrom «pitch_bits» (now (image .entry)) start (8 * length (now (image .entry)))) ⌝ }
 {
     let mut at = start;
     let mut count: u32 = 0;
     loop {
         let head = head_of(narrow_at(image, at), pitch_bits);
-        let answer = frame_in(head, wide_at(image, at), at, 8 * image.len(), pitch_bits);
+        let answer = frame_in(
+            head,
+            wide_at(image, at),
+            at,
+            at,
+            8 * image.len(),
+            pitch_bits,
+        );
         let FrameAnswer::Whole(frame, next) = answer else {
-            return refuse(NO_PHRASE);
+            return refuse_cut(answer.shortfall());
         };
         at = next;
         count += 1;

@@ -2,11 +2,11 @@
 // FIFO's bytes alike. And the operation that takes a frame at a bit of an image.
 ghost use mathlib.Core.Path.{_≡_};
 ghost use mathlib.Core.List.{List};
-ghost use Prim.Native.Nat.{ℕ, _+_, _*_, _-_, _≤_, _<_, _^_};
+ghost use Prim.Native.Nat.{ℕ, _+_, _*_, _-_, _≤_, _<_, _^_, max};
 ghost use lib.ListN.{length};
 ghost use Rattle.rom.specs.Window.{wide, Window};
 ghost use Rattle.rom.specs.Frames.{pitchBits, numbersOf};
-ghost use Rattle.rom.specs.Reader.{headAt, frameOf, frameAt, noFrame, frameTakenOf};
+ghost use Rattle.rom.specs.Reader.{headAt, frameOf, noShortfall, shortfallOf, countedTo, cutAt, frameFrom, frameAt, noFrame, frameTakenOf};
 use crate::bits::WIDE;
 use crate::bits::image_fault;
 use crate::bits::narrow_at;
@@ -23,10 +23,72 @@ use crate::head::kind_of;
 use base::refusal::NO_PHRASE;
 use base::refusal::TAKEN;
 
+// How short the bits are: where the cut frame begins, with its prefix if it has one, and how many bits it lacks.
+pub struct Shortfall {
+    pub begun: usize,
+    pub missing: usize,
+}
+
+impl Shortfall {
+    // Where no frame is cut.
+    pub fn none() -> Shortfall
+        ensures { λ r. ⌜ r ≡ noShortfall ⌝ }
+    {
+        Shortfall {
+            begun: 0,
+            missing: 0,
+        }
+    }
+}
+
 // A frame is taken whole, with the bit after it, or the bits end inside it or before it.
 pub enum FrameAnswer {
     Whole(Frame, usize),
-    Cut,
+    Cut(Shortfall),
+}
+
+impl FrameAnswer {
+    // How short the bits are.
+    pub fn shortfall(self) -> Shortfall
+        ensures { λ r. ⌜ r ≡ shortfallOf self ⌝ }
+    {
+        match self {
+            FrameAnswer::Whole(_, _) => Shortfall::none(),
+            FrameAnswer::Cut(short) => short,
+        }
+    }
+}
+
+fn later_of(a: usize, b: usize) -> usize
+    ensures { λ r. ⌜ r ≡ max a b ⌝ }
+{
+    if a < b { b } else { a }
+}
+
+// The bit up to which a frame from bit `at` up to bit `next` is counted, where the bits end at bit `end`.
+fn counted_to(at: usize, next: usize, end: usize, pitch_bits: usize) -> usize
+    requires { ⌜ («pitch_bits» ≤ 8) × (at < 2 ^ 32 - 64) ⌝ }
+    ensures { λ r. ⌜ r ≡ countedTo «pitch_bits» at next end ⌝ }
+{
+    let energy = at + 4;
+    if end < energy {
+        return energy;
+    }
+    let pitch = at + 5 + pitch_bits;
+    if end < pitch { pitch } else { next }
+}
+
+// How short the bits are that end at bit `end`, before bit `next` with which the frame at bit `at` would be whole.
+fn cut_at(begun: usize, at: usize, next: usize, end: usize, pitch_bits: usize) -> Shortfall
+    requires { ⌜ («pitch_bits» ≤ 8) × (begun ≤ at) × (at < 2 ^ 32 - 64) × (end < next) ⌝ }
+    ensures { λ r. ⌜ r ≡ cutAt «pitch_bits» begun at next end ⌝ }
+{
+    let there = later_of(begun, end);
+    let wanted = counted_to(at, next, there, pitch_bits);
+    Shortfall {
+        begun,
+        missing: wanted - there,
+    }
 }
 
 // The frame of a kind and a head. Its K are parts of its window, which cost nothing where the caller does not use them.
@@ -69,44 +131,61 @@ fn frame_of(kind: Kind, head: Head, window: u64, pitch_bits: usize) -> Frame
     }
 }
 
-// The frame at bit `at` with its head and its wide window, and the bit after it, where the slice has `end` bits. The head is a number
-// of its own so that a caller which asks for no K, as the walk, costs no more than the head.
-pub fn frame_in(head: Head, window: u64, at: usize, end: usize, pitch_bits: usize) -> FrameAnswer
-    requires { ⌜ («pitch_bits» ≤ 8) × (at < 2 ^ 32 - 64) ⌝ }
-    ensures { λ r. ⌜ ((s : List ℕ) → head ≡ headAt «pitch_bits» s at → Window wide s at window → end ≡ 8 * length s → r ≡ frameAt «pitch_bits» s at) ⌝ }
+// The frame at bit `at` with its head and its wide window, and the bit after it, where the slice has `end` bits; with its prefix it
+// begins at bit `begun`. The head is a number of its own so that a caller which asks for no K, as the walk, costs no more than the head.
+pub fn frame_in(
+    head: Head,
+    window: u64,
+    begun: usize,
+    at: usize,
+    end: usize,
+    pitch_bits: usize,
+) -> FrameAnswer
+    requires { ⌜ («pitch_bits» ≤ 8) × (begun ≤ at) × (at < 2 ^ 32 - 64) ⌝ }
+    ensures { λ r. ⌜ ((s : List ℕ) → head ≡ headAt «pitch_bits» s at → Window wide s at window → end ≡ 8 * length s → r ≡ frameFrom «pitch_bits» s begun at) ⌝ }
 {
     let kind = kind_of(head);
     let next = at + kind_bits(kind, pitch_bits);
     if end < next {
-        return FrameAnswer::Cut;
+        return FrameAnswer::Cut(cut_at(begun, at, next, end, pitch_bits));
     }
     let frame = frame_of(kind, head, window, pitch_bits);
     FrameAnswer::Whole(frame, next)
 }
 
-// The frame at bit `at`, with the bit after it.
+// The frame at bit `at`, which with its prefix begins at bit `begun`, and the bit after it.
+pub fn frame_from(s: &[u8], begun: usize, at: usize, pitch_bits: usize) -> FrameAnswer
+    requires { ⌜ («pitch_bits» ≤ 8) × (begun ≤ at) × (at < 2 ^ 32 - 64) × (length (now s) < 2 ^ 32) ⌝ }
+    ensures { λ r. ⌜ r ≡ frameFrom «pitch_bits» (now (s .entry)) begun at ⌝ }
+{
+    let head = head_of(narrow_at(s, at), pitch_bits);
+    frame_in(head, wide_at(s, at), begun, at, 8 * s.len(), pitch_bits)
+}
+
+// The frame at bit `at`, without a prefix, and the bit after it.
 pub fn frame_at(s: &[u8], at: usize, pitch_bits: usize) -> FrameAnswer
     requires { ⌜ («pitch_bits» ≤ 8) × (at < 2 ^ 32 - 64) × (length (now s) < 2 ^ 32) ⌝ }
     ensures { λ r. ⌜ r ≡ frameAt «pitch_bits» (now (s .entry)) at ⌝ }
 {
-    let head = head_of(narrow_at(s, at), pitch_bits);
-    frame_in(head, wide_at(s, at), at, 8 * s.len(), pitch_bits)
+    frame_from(s, at, at, pitch_bits)
 }
 
-// What taking a frame at a bit returns: the refusal number, the frame or none, and its bits.
+// What taking a frame at a bit returns: the refusal number, the frame or none, its bits, and with 10 how short the image is.
 pub struct FrameTaken {
     pub refusal: u8,
     pub frame: MaybeFrame,
     pub bits: usize,
+    pub short: Shortfall,
 }
 
-fn no_frame(refusal: u8) -> FrameTaken
-    ensures { λ r. ⌜ r ≡ noFrame refusal ⌝ }
+fn no_frame(refusal: u8, short: Shortfall) -> FrameTaken
+    ensures { λ r. ⌜ r ≡ noFrame refusal short ⌝ }
 {
     FrameTaken {
         refusal,
         frame: MaybeFrame::None,
         bits: 0,
+        short,
     }
 }
 
@@ -117,14 +196,16 @@ pub fn frame_taken(image: &[u8], bit: usize) -> FrameTaken
 {
     let fault = image_fault(image, image.len() <= bit / 8);
     if fault != TAKEN {
-        return no_frame(fault);
+        return no_frame(fault, Shortfall::none());
     }
-    let FrameAnswer::Whole(frame, next) = frame_at(image, bit, PITCH_BITS) else {
-        return no_frame(NO_PHRASE);
+    let answer = frame_at(image, bit, PITCH_BITS);
+    let FrameAnswer::Whole(frame, next) = answer else {
+        return no_frame(NO_PHRASE, answer.shortfall());
     };
     FrameTaken {
         refusal: TAKEN,
         frame: MaybeFrame::Some(frame),
         bits: next - bit,
+        short: Shortfall::none(),
     }
 }

@@ -7,4 +7,5 @@ pub accept-spec : {M : Type 1} → statement M
 accept-spec =
     tie.close (tie.spec (λ c κs. search needs) (λ c κs. search needs)
     (λ c κs. rw (c .intervals .ensures, c .before .of .ensures) (search needs))
-    (λ c. rw (c .samples .ensures, c .before .intervals .ensures, c .before .before .of .ensures)))
+    (λ c κs. search needs)
+    (λ c. let s = c .before in rw (s .samples .ensures, s .before .intervals .ensures, s .before .before .of .ensures, c .none .ensures)))

@@ -30,17 +30,19 @@ read : (c : tie.After-is-stop Inv-loop μ-loop)
     → let l = c .before .before .before .before .before .before .before .before in
     let a = l .before .before .args in
     WholeFrame (a .pitch-bits) (a .image .now) (l .loop .at) (c .before .before .answer .given .0 .0) (c .before .before .answer .given .0 .1 .0)
-read c = let f = c .before .before in whole-frame _ _ _ (answered (f .before .before)) (f .answer .given .1)
+read c = let f = c .before .before in whole-frame _ _ _ _ (answered (f .before .before)) (f .answer .given .1)
 
 pub walk-from-spec : {M : Type 1} → statement M
 walk-from-spec =
     tie.close (tie.spec Inv-loop μ-loop
     (λ c. search (come-first, needs))
     (λ c κs. search needs) (λ c κs. search needs) (λ c κs. search needs) (λ c. search needs) (λ c κs. search needs)
-    (λ c. search needs) (λ c. search needs) (λ c κs. search needs)
+    (λ c. search needs) (λ c. search needs) (λ c κs. search needs) (λ c κs. search needs)
     (λ c.
-    let f = c .before .before .before in
-    c .refuse .ensures ∙ come-cut (f .before .before .before .before .loop .inv) (answered f) (c .before .enum-told .given .1))
+    let t = c .before .before in
+    let f = t .before .before in
+    c .refuse-cut .ensures
+    ∙ rw (c .before .shortfall .ensures) (come-cut (f .before .before .before .before .loop .inv) (answered f) (t .enum-told .given .1)))
     (λ c. search needs) (λ c κs. search needs)
     (λ c. omega (arith, read (c .before)))
     (λ c κs. search needs)

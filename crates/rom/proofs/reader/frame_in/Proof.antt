@@ -21,8 +21,9 @@ pub frame-in-spec : {M : Type 1} → statement M
 frame-in-spec =
     tie.close (tie.spec (λ c κs. search needs) (λ c κs. search needs)
     (λ c. omega (arith, kind-bits-most (c .before .before .args .pitch-bits) (c .before .kind-of .result)))
-    (λ c s h w e. cut-is _ _ _ (bits-read (c .before) s h) (omega (arith, c .if1 .taken)))
+    (λ c κs. search needs)
+    (λ c s h w e. cut-is _ _ _ _ (bits-read (c .before .before) s h) e (c .cut-at .ensures) (c .before .if1 .taken))
     (λ c κs. search needs)
     (λ c s h w e.
     let b = c .before .before in
-    whole-is _ _ _ (bits-read b s h) (c .frame-of .ensures _ _ w ∙ kind-decoded _ _ _ h (b .before .kind-of .ensures)) (omega (arith, c .before .if1 .left))))
+    whole-is _ _ _ _ (bits-read b s h) (c .frame-of .ensures _ _ w ∙ kind-decoded _ _ _ h (b .before .kind-of .ensures)) (omega (arith, c .before .if1 .left))))

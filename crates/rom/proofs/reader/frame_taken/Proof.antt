@@ -11,26 +11,32 @@ use Rattle.rom.proofs.reader.frame_taken.Tie as tie
 -- the frame that was taken
 taken-frame : (c : tie.After-known-told)
     → let a = c .before .before .before .before .before .before .before .args in
-    WholeFrame 6 (a .image .now) (a .bit) (c .before .frame .given .0 .0) (c .before .frame .given .0 .1 .0)
-taken-frame c = whole-frame _ _ _ (c .before .before .before .frame-at .ensures) (c .before .frame .given .1)
+    WholeFrame 6 (a .image .now) (a .bit) (c .before .answer .given .0 .0) (c .before .answer .given .0 .1 .0)
+taken-frame c = whole-frame _ _ _ _ (c .before .before .before .frame-at .ensures) (c .before .answer .given .1)
 
 pub frame-taken-spec : {M : Type 1} → statement M
 frame-taken-spec =
-    tie.close (tie.spec (λ c κs. search needs) (λ c κs. search needs)
+    tie.close (tie.spec (λ c κs. search needs) (λ c κs. search needs) (λ c κs. search needs)
     (λ c.
-    let a = c .before .before .before .before .args in
-    with-numbers (take-refused 6 (a .image .now) (a .bit) (c .before .before .image-fault .ensures) (c .no-frame .ensures) (c .before .if1 .taken)))
+    let f = c .before .before in
+    let a = f .before .before .before .args in
+    let r = rw (c .before .none .ensures) at (c .no-frame .ensures) in
+    with-numbers (take-refused 6 (a .image .now) (a .bit) (f .before .image-fault .ensures) r (f .if1 .taken)))
     (λ c κs.
     let a = c .before .before .before .args in
     omega (arith, in-image (a .image .now) (a .bit / 8) (c .before .image-fault .ensures) (c .if1 .left)))
-    (λ c. search needs) (λ c. search needs) (λ c κs. search needs)
+    (λ c. search needs) (λ c. search needs) (λ c κs. search needs) (λ c κs. search needs)
     (λ c.
-    let b = c .before .before .before in
-    with-numbers
-    (take-cut _ _ _ (b .before .before .image-fault .ensures) (b .before .if1 .left) (b .frame-at .ensures) (c .no-frame2 .ensures) (c .before .enum-told .given .1)))
+    let t = c .before .before in
+    let b = t .before .before in
+    let r = rw (c .before .shortfall .ensures) at (c .no-frame2 .ensures) in
+    with-numbers (take-cut _ _ _ (b .before .before .image-fault .ensures) (b .before .if1 .left) (b .frame-at .ensures) (t .enum-told .given .1) r))
     (λ c. omega (arith, taken-frame c))
+    (λ c κs. search needs)
     (λ c.
-    let b = c .before .before .before in
+    let w = c .before .before in
+    let b = w .before .before in
     with-numbers
-    (take-whole _ _ _ (b .before .before .image-fault .ensures) (b .before .if1 .left) (b .frame-at .ensures) (c .before .frame .given .1)
-    (omega (arith, taken-frame c)))))
+    (rw (c .none2 .ensures)
+    (take-whole _ _ _ (b .before .before .image-fault .ensures) (b .before .if1 .left) (b .frame-at .ensures) (w .answer .given .1)
+    (omega (arith, taken-frame (c .before)))))))

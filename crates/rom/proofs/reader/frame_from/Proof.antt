@@ -1,11 +1,11 @@
--- `rom::reader::frame_at` meets its contract. Assumes nothing.
+-- `rom::reader::frame_from` meets its contract. Assumes nothing.
 use borrow.Author.Needs.{needs}
 use mathlib.Core.Path.{refl}
-use Rattle.rom.proofs.reader.frame_at.Statement.{statement}
-use Rattle.rom.proofs.reader.frame_at.Tie as tie
+use Rattle.rom.proofs.reader.frame_from.Statement.{statement}
+use Rattle.rom.proofs.reader.frame_from.Tie as tie
 
-pub frame-at-spec : {M : Type 1} → statement M
-frame-at-spec =
+pub frame-from-spec : {M : Type 1} → statement M
+frame-from-spec =
     tie.close (tie.spec (λ c κs. search needs) (λ c κs. search needs) (λ c κs. search needs) (λ c. search needs) (λ c κs. search needs)
     (λ c.
     let h = c .before .before in
