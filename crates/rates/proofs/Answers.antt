@@ -10,12 +10,13 @@ use Rattle.rom.specs.Bits.{imageLimit, field}
 use Rattle.rom.specs.Frames.{bitCount, numbersOf}
 use Rattle.rom.specs.Phrases.{walkRefused, partOf}
 use Rattle.rom.specs.Prefix.{withPrefix}
-use Rattle.rom.specs.Reader.{frameAt}
+use Rattle.rom.specs.Reader.{noShortfall, shortfallOf, frameFrom}
 use Rattle.rom.specs.declared.frames.Frame.{Frame}
 use Rattle.rom.specs.declared.frames.MaybeFrame.the-variants.{Some}
 use Rattle.rom.specs.declared.phrases.Walked.{Walked}
 use Rattle.rom.specs.declared.reader.FrameAnswer.{FrameAnswer}
 use Rattle.rom.specs.declared.reader.FrameAnswer.the-variants.{Whole, Cut}
+use Rattle.rom.specs.declared.reader.Shortfall.{Shortfall}
 use Rattle.rom.proofs.Checks.{valid-length, bit-beyond}
 use Rattle.rom.proofs.ItemWalk as walk
 use Rattle.rates.specs.Rates.{prefixBits}
@@ -32,7 +33,7 @@ module _ (P : ℕ) (r : FrameRate) (s : List ℕ) (a : ℕ) where
     unfolding ratedWalkOf
     walk-refused q h = refused-with e walkRefused _ h q
 
-    pub walk-answered : w ≡ ratedOver (rateForm r P) (itemsAt (rateForm r P) s a) → n ≡ 0 → w ≡ ratedWalkOf P r s a
+    pub walk-answered : w ≡ ratedOver (rateForm r P) s (8 * a) (itemsAt (rateForm r P) s a) → n ≡ 0 → w ≡ ratedWalkOf P r s a
     unfolding ratedWalkOf
     walk-answered q h = answered e walkRefused _ h q
 
@@ -57,11 +58,14 @@ module _ (P v : ℕ) (s : List ℕ) (bit : ℕ) {n : ℕ} (e : n ≡ rateFault s
   fault-is : n ≡ rateFault s (onlyV v) (leb (8 * length s) bit)
   fault-is = e ∙ ap (rateFault s (onlyV v)) (bit-beyond s bit)
 
-  pub take-refused : {x : RatedTaken} → x ≡ noRated n → (n ≡ 0 → ⊥) → x ≡ ratedTakenOf P v s bit
-  unfolding ratedTakenOf
-  take-refused a h = refused-with fault-is noRated _ h a
+  abbrev refused : ℕ → RatedTaken
+  refused m = noRated m noShortfall
 
-  module _ (h : n ≡ 0) {p q : ℕ} {t : FrameAnswer} (ep : p ≡ prefixBits (onlyV v)) (eq : q ≡ field s bit p) (ea : t ≡ frameAt P s (bit + p)) where
+  pub take-refused : {x : RatedTaken} → x ≡ refused n → (n ≡ 0 → ⊥) → x ≡ ratedTakenOf P v s bit
+  unfolding ratedTakenOf
+  take-refused a h = refused-with fault-is refused _ h a
+
+  module _ (h : n ≡ 0) {p q : ℕ} {t : FrameAnswer} (ep : p ≡ prefixBits (onlyV v)) (eq : q ≡ field s bit p) (ea : t ≡ frameFrom P s bit (bit + p)) where
     -- what the reader returns
     abbrev read : FrameAnswer → RatedTaken
     read t = ratedAnswer (rateForm (onlyV v) P) (withPrefix q t)
@@ -69,11 +73,11 @@ module _ (P v : ℕ) (s : List ℕ) (bit : ℕ) {n : ℕ} (e : n ≡ rateFault s
     answer : ratedAnswer (rateForm (onlyV v) P) (withPrefix q t) ≡ ratedAnswer (rateForm (onlyV v) P) (readItem (rateForm (onlyV v) P) s bit)
     answer = ap (ratedAnswer (rateForm (onlyV v) P)) (sym (read-is P (onlyV v) s bit ep eq ea))
 
-    pub take-cut : {x : RatedTaken} → x ≡ noRated 10 → t ≡ Cut → x ≡ ratedTakenOf P v s bit
+    pub take-cut : {y : Shortfall} → t ≡ Cut y → {x : RatedTaken} → x ≡ noRated 10 (shortfallOf t) → x ≡ ratedTakenOf P v s bit
     unfolding ratedTakenOf
-    take-cut b c = answered fault-is noRated _ h (b ∙ ap read (sym c) ∙ answer)
+    take-cut c b = answered fault-is refused _ h (b ∙ rw c (ap read (sym c) ∙ answer))
 
     pub take-whole : {f : Frame} {next w : ℕ} → t ≡ Whole f next → w ≡ p + bitCount P f
-        → record { refusal = 0; rate = q; frame = Some f; bits = w } ≡ ratedTakenOf P v s bit
+        → record { refusal = 0; rate = q; frame = Some f; bits = w; short = noShortfall } ≡ ratedTakenOf P v s bit
     unfolding ratedTakenOf
-    take-whole {f} {next} c b = answered fault-is noRated _ h (rw (b, ep) (ap read (sym c) ∙ answer))
+    take-whole {f} {next} c b = answered fault-is refused _ h (rw (b, ep) (ap read (sym c) ∙ answer))

@@ -48,7 +48,7 @@ module _ (P : ℕ) where
             → itemsOf (itemCode (plainForm P)) (withPrefix 0 r) (λ next. itemsFrom (itemCode (plainForm P)) (readItem (plainForm P) s) next n)
             ≡ map plain (itemsOf (frameCode P) (itemAnswerOf r) (λ next. framesFrom P s next n))
         go ih (Whole f next) = either-way (isStop f) (λ t. rw t) (λ t. rw t (ap (λ (is : List Item). plain f ∷ is) (ih next)))
-        go ih Cut = refl
+        go ih (Cut h) = refl
 
     -- the frames there, as items, are the items there
     pub plain-there : (a : ℕ) (fs : List Frame) → FramesThere P s a fs → There (itemCode (plainForm P)) s (8 * a) (map plain fs)

@@ -3,7 +3,7 @@
 use mathlib.Core.Path.{_≡_, refl, ap}
 use mathlib.Core.List.{List, [], _∷_, map}
 use Prim.Native.Nat.{ℕ, _*_}
-use native.Mathlib.Nat.{zero-add}
+use native.Mathlib.Nat.{zero-add, add-zero}
 use native.Mathlib.Omega.{arith}
 use lib.Dec.{eqb, leb}
 use lib.ListN.{length}
@@ -27,7 +27,7 @@ use Rattle.rates.proofs.Plain.{plain-read, plain-bits, plain-from}
 
 -- the numbers of a frame taken without its rate
 abbrev unrated : RatedTaken → FrameTaken
-unrated t = record { refusal = t .refusal; frame = t .frame; bits = t .bits }
+unrated t = record { refusal = t .refusal; frame = t .frame; bits = t .bits; short = t .short }
 
 module _ (P : ℕ) where
   plain-stops : (fs : List Frame) → hasStop (itemCode (plainForm P)) (map plain fs) ≡ hasStop (frameCode P) fs
@@ -43,17 +43,17 @@ module _ (P : ℕ) where
   plain-kept [] = refl
   plain-kept (f ∷ fs) = rw (plain-kept fs) (omega arith)
 
-  plain-over : (fs : List Frame) → ratedOver (plainForm P) (map plain fs) ≡ walkedOver P fs
-  plain-over fs = rw (plain-stops fs, plain-bits P fs, plain-length fs, plain-kept fs)
+  plain-over : (s : List ℕ) (start : ℕ) (fs : List Frame) → ratedOver (plainForm P) s start (map plain fs) ≡ walkedOver P s start fs
+  plain-over s start fs = rw (plain-stops fs, plain-bits P fs, plain-length fs, plain-kept fs, add-zero)
 
   plain-answer : (t : FrameAnswer) → unrated (ratedAnswer (plainForm P) (withPrefix 0 t)) ≡ takenOf P t
   plain-answer (Whole f next) = rw zero-add
-  plain-answer Cut = refl
+  plain-answer (Cut h) = refl
 
   module _ (s : List ℕ) (a : ℕ) where
     plain-walk : ratedWalkOf P powerUpRate s a ≡ walkOf P s a
     unfolding ratedWalkOf walkOf
-    plain-walk = rw (plain-from P s (8 * length s) (8 * a), plain-over (framesAt P s a))
+    plain-walk = rw (plain-from P s (8 * length s) (8 * a), plain-over s (8 * a) (framesAt P s a))
 
     plain-phrase : ratedPhraseOf P powerUpRate s a ≡ phraseOf P s a
     unfolding ratedPhraseOf phraseOf
@@ -72,7 +72,7 @@ module _ (P : ℕ) where
       where
         rate-of : (t : FrameAnswer) → ratedAnswer (plainForm P) (withPrefix 0 t) .rate ≡ 0
         rate-of (Whole f next) = refl
-        rate-of Cut = refl
+        rate-of (Cut h) = refl
 
 pub rated-plain : (P : ℕ) (s : List ℕ) (a : ℕ) → RatedPlain P s a
 rated-plain P s a = record { walk = plain-walk P s a; phrase = plain-phrase P s a; taken = plain-taken P s a; rate = no-rate P s a }

@@ -10,7 +10,7 @@ use borrow.Author.Tests.{le-leb}
 use lib.Dec.{eqb}
 use Rattle.base.proofs.Booleans.{by-test}
 use Rattle.rom.specs.Bits.{field}
-use Rattle.rom.specs.Reader.{frameAt}
+use Rattle.rom.specs.Reader.{frameFrom}
 use Rattle.rom.specs.Prefix.{withPrefix}
 use Rattle.rom.specs.declared.reader.FrameAnswer.{FrameAnswer}
 use Rattle.rates.specs.Rates.{prefixBits, rateOfByte, rateValid, skippedWith}
@@ -22,7 +22,7 @@ prefix-few r e = rw e (by-test (λ n. n ≤ 2) (eqb (r .v) 0) (λ t. omega arith
 
 -- the item that stands at a bit, from its rate bits and its frame
 pub read-is : (P : ℕ) (r : FrameRate) (s : List ℕ) (at : ℕ) {Q q : ℕ} {a : FrameAnswer} → Q ≡ prefixBits r → q ≡ field s at Q
-    → a ≡ frameAt P s (at + Q) → readItem (rateForm r P) s at ≡ withPrefix q a
+    → a ≡ frameFrom P s at (at + Q) → readItem (rateForm r P) s at ≡ withPrefix q a
 read-is P r s at e b a = rw (b, a, e)
 
 pub skips-few : (r : FrameRate) (q : ℕ) → skippedWith r q .0 ≤ 6

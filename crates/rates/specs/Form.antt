@@ -1,10 +1,12 @@
 -- The form of a device's frames: how they stand in the bits, and how many intervals they skip.
 use mathlib.Core.List.{List}
-use Prim.Native.Nat.{ℕ, _-_, _<_}
+use Prim.Native.Nat.{ℕ, _+_, _-_, _<_}
 use Rattle.base.specs.Units.{intervalsPerFrame}
 use Rattle.rom.specs.Items.{Code, ItemAnswer}
 use Rattle.rom.specs.Prefix.{prefixedCode, readPrefixed}
+use Rattle.rom.specs.Reader.{shortOf}
 use Rattle.rom.specs.declared.frames.Frame.{Frame}
+use Rattle.rom.specs.declared.reader.Shortfall.{Shortfall}
 use Rattle.rates.specs.Rates.{prefixBits, skippedWith}
 use Rattle.rates.specs.declared.rate.FrameRate.{FrameRate}
 
@@ -41,6 +43,10 @@ itemCode F = prefixedCode (F .prefix) (F .pitch)
 -- their reader
 abbrev pub readItem : Form → List ℕ → ℕ → ItemAnswer Item
 readItem F = readPrefixed (F .prefix) (F .pitch)
+
+-- how short the image s is of the item at bit `at` (02, §4)
+abbrev pub shortAt : Form → List ℕ → ℕ → Shortfall
+shortAt F s at = shortOf (F .pitch) s at (at + F .prefix)
 
 -- the intervals of an item: those that it does not skip
 abbrev pub keptIntervals : Form → Item → ℕ

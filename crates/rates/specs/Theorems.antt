@@ -3,15 +3,15 @@ use mathlib.Core.Path.{_≡_}
 use mathlib.Core.Logic.{_↔_}
 use mathlib.Core.Bool.{true}
 use mathlib.Core.List.{List}
-use Prim.Native.Nat.{ℕ, _*_, _<_}
+use Prim.Native.Nat.{ℕ, _+_, _*_, _<_}
 use lib.ListN.{length}
-use Rattle.base.specs.Refusals.{TAKEN, NO-PHRASE}
+use Rattle.base.specs.Refusals.{TAKEN}
 use Rattle.rom.specs.Bits.{imageValid}
 use Rattle.rom.specs.Items.{Phrase, There, bitsAll, sumOf}
-use Rattle.rom.specs.Phrases.{walkRefused, walkOf, phraseOf}
+use Rattle.rom.specs.Phrases.{walkCut, walkOf, phraseOf}
 use Rattle.rom.specs.Reader.{frameTakenOf}
 use Rattle.rates.specs.Rates.{powerUpRate, rateValid}
-use Rattle.rates.specs.Form.{rateForm, Item, itemCode, keptIntervals}
+use Rattle.rates.specs.Form.{rateForm, Item, itemCode, shortAt, keptIntervals}
 use Rattle.rates.specs.Walks.{itemsAt, ratedAccepted, ratedWalkOf, ratedPhraseOf, ratedTakenOf}
 use Rattle.rates.specs.declared.rate.FrameRate.{FrameRate}
 
@@ -36,12 +36,14 @@ RatedCounts =
     (P : ℕ) (r : FrameRate) (s : List ℕ) (a : ℕ) (is : List Item) → imageValid s ≡ true → rateValid r ≡ true → RatedPhraseAt P r s a is
     → ratedWalkOf P r s a ≡ ratedAccepted (length (bitsAll (itemCode (rateForm r P)) is)) (length is) (sumOf (keptIntervals (rateForm r P)) is)
 
--- Where no phrase begins at an address of a valid image, it is refused with 10.
+-- Where no phrase begins at an address of a valid image, it is refused with 10, and tells how short the image is of the item after the
+-- items there.
 abbrev pub RatedRefuses : Type 0
 RatedRefuses =
     (P : ℕ) (r : FrameRate) (s : List ℕ) (a : ℕ) → imageValid s ≡ true → rateValid r ≡ true → a < length s
     → ((is : List Item) → RatedPhraseAt P r s a is → ⊥)
-    → ratedWalkOf P r s a ≡ walkRefused NO-PHRASE
+    → (is : List Item) → ItemsThere P r s a is
+    → ratedWalkOf P r s a ≡ walkCut (shortAt (rateForm r P) s (8 * a + length (bitsAll (itemCode (rateForm r P)) is)))
 
 -- No second phrase begins at an address: two have the same kinds, indexes and rates.
 abbrev pub RatedUnique : Type 0
@@ -56,5 +58,5 @@ RatedThere =
 pub record RatedPlain (P : ℕ) (s : List ℕ) (a : ℕ) : Type 0 where
   pub walk : ratedWalkOf P powerUpRate s a ≡ walkOf P s a
   pub phrase : ratedPhraseOf P powerUpRate s a ≡ phraseOf P s a
-  pub taken : let t = ratedTakenOf P 0 s a in record { refusal = t .refusal; frame = t .frame; bits = t .bits } ≡ frameTakenOf P s a
+  pub taken : let t = ratedTakenOf P 0 s a in record { refusal = t .refusal; frame = t .frame; bits = t .bits; short = t .short } ≡ frameTakenOf P s a
   pub rate : ratedTakenOf P 0 s a .rate ≡ 0

@@ -27,8 +27,10 @@ use rom::head::head_of;
 use rom::phrases::Walked;
 use rom::phrases::part_of;
 use rom::phrases::refuse;
+use rom::phrases::refuse_cut;
 use rom::reader::FrameAnswer;
-use rom::reader::frame_at;
+use rom::reader::Shortfall;
+use rom::reader::frame_from;
 use rom::reader::frame_in;
 
 // The fault of a call told a rate: 3, then 4 where the rate is out of range, then 2 where the caller has found that what is asked for
@@ -58,6 +60,7 @@ fn accept(bits: usize, count: u32, kept: u64) -> Walked
         frames,
         intervals,
         samples,
+        short: Shortfall::none(),
     }
 }
 
@@ -73,7 +76,7 @@ fn kept_by(rate: FrameRate, bits: u8) -> u64
 // `rom::phrases::walk_from`.
 fn walk_from(image: &[u8], start: usize, rate: FrameRate) -> Walked
     requires { ⌜ (length (now image) ≤ imageLimit) × (start ≤ 8 * length (now image)) ⌝ }
-    ensures { λ r. ⌜ r ≡ ratedOver (rateForm rate pitchBits) (itemsFrom (itemCode (rateForm rate pitchBits)) (readItem (rateForm rate pitchBits) (now (image .entry))) start (8 * length (now (image .entry)))) ⌝ }
+    ensures { λ r. ⌜ r ≡ ratedOver (rateForm rate pitchBits) (now (image .entry)) start (itemsFrom (itemCode (rateForm rate pitchBits)) (readItem (rateForm rate pitchBits) (now (image .entry))) start (8 * length (now (image .entry)))) ⌝ }
 {
     let prefix = rate.prefix_bits();
     let mut at = start;
@@ -86,12 +89,13 @@ fn walk_from(image: &[u8], start: usize, rate: FrameRate) -> Walked
         let answer = frame_in(
             head,
             wide_at(image, first),
+            at,
             first,
             8 * image.len(),
             PITCH_BITS,
         );
         let FrameAnswer::Whole(frame, next) = answer else {
-            return refuse(NO_PHRASE);
+            return refuse_cut(answer.shortfall());
         };
         at = next;
         count += 1;
@@ -121,22 +125,25 @@ pub fn phrase(image: &[u8], address: usize, rate: FrameRate) -> &[u8]
     part_of(image, address, walked.refusal, walked.bits)
 }
 
-// What taking a frame at a bit returns: the refusal number, the rate bits' value, the frame or none, and the bits of both.
+// What taking a frame at a bit returns: the refusal number, the rate bits' value, the frame or none, the bits of both, and with 10 how
+// short the image is.
 pub struct RatedTaken {
     pub refusal: u8,
     pub rate: u8,
     pub frame: MaybeFrame,
     pub bits: usize,
+    pub short: Shortfall,
 }
 
-fn no_frame(refusal: u8) -> RatedTaken
-    ensures { λ r. ⌜ r ≡ noRated refusal ⌝ }
+fn no_frame(refusal: u8, short: Shortfall) -> RatedTaken
+    ensures { λ r. ⌜ r ≡ noRated refusal short ⌝ }
 {
     RatedTaken {
         refusal,
         rate: 0,
         frame: MaybeFrame::None,
         bits: 0,
+        short,
     }
 }
 
@@ -148,18 +155,19 @@ pub fn frame_taken(image: &[u8], bit: usize, v: u8) -> RatedTaken
     let rate = FrameRate { v, rr: 0 };
     let fault = rate_fault(image, rate, image.len() <= bit / 8);
     if fault != TAKEN {
-        return no_frame(fault);
+        return no_frame(fault, Shortfall::none());
     }
     let prefix = rate.prefix_bits();
     let bits = field_at(image, bit, prefix);
-    let answer = frame_at(image, bit + prefix, PITCH_BITS);
+    let answer = frame_from(image, bit, bit + prefix, PITCH_BITS);
     let FrameAnswer::Whole(frame, next) = answer else {
-        return no_frame(NO_PHRASE);
+        return no_frame(NO_PHRASE, answer.shortfall());
     };
     RatedTaken {
         refusal: TAKEN,
         rate: bits,
         frame: MaybeFrame::Some(frame),
         bits: next - bit,
+        short: Shortfall::none(),
     }
 }

@@ -7,4 +7,5 @@ pub accept-spec : {M : Type 1} → statement M
 accept-spec =
     tie.close (tie.spec (λ c κs. search needs) (λ c κs. search needs)
     (λ c κs. rw (c .of2 .ensures) (search needs))
-    (λ c. rw (c .samples .ensures, c .before .of2 .ensures, c .before .before .of .ensures)))
+    (λ c κs. search needs)
+    (λ c. let s = c .before in rw (s .samples .ensures, s .before .of2 .ensures, s .before .before .of .ensures, c .none .ensures)))

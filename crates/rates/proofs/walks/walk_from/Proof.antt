@@ -4,7 +4,7 @@ use mathlib.Core.Path.{_≡_, refl, sym, _∙_}
 use Prim.Native.Nat.{_+_, _*_, _-_, _≤_, _<_}
 use native.Mathlib.Omega.{arith}
 use lib.ListN.{length}
-use Rattle.rom.specs.Reader.{frameAt}
+use Rattle.rom.specs.Reader.{frameFrom}
 use Rattle.rates.specs.Rates.{prefixBits}
 use Rattle.rates.proofs.Rates.{prefix-few}
 use Rattle.rates.proofs.Walking.{Come, come-first, come-cut, come-stop, come-on, further}
@@ -24,7 +24,7 @@ small c = (prefix-few (c .before .before .before .args .rate) (c .loop .inv .0 .
 -- what the reader returned
 answered : (c : tie.After-frame-in Inv-loop μ-loop)
     → let l = c .before .before .before .before .before in
-    c .frame-in .result ≡ frameAt 6 (l .before .before .before .args .image .now) (l .loop .at + l .before .prefix-bits .result)
+    c .frame-in .result ≡ frameFrom 6 (l .before .before .before .args .image .now) (l .loop .at) (l .loop .at + l .before .prefix-bits .result)
 answered c =
     let h = c .before .before in
     c .frame-in .ensures _ (h .head-of .ensures _ _ (h .before .narrow-at .ensures)) (c .before .wide-at .ensures) refl
@@ -52,12 +52,15 @@ walk-from-spec =
     (λ c κs. omega (arith, small (c .before .before .before)))
     (λ c. search needs)
     (λ c κs. omega (arith, small (c .before .before .before .before)))
-    (λ c. search needs) (λ c. search needs) (λ c κs. search needs)
+    (λ c. search needs) (λ c. search needs) (λ c κs. search needs) (λ c κs. search needs)
     (λ c.
-    let f = c .before .before .before in
+    let t = c .before .before in
+    let f = t .before .before in
     let l = f .before .before .before .before .before in
-    c .refuse .ensures
-    ∙ come-cut (l .before .before .before .args .rate) (l .loop .inv .1) (l .loop .inv .0 .0) (f .before .before .before .before .field-at .ensures) (answered f) (c .before .enum-told .given .1))
+    c .refuse-cut .ensures
+    ∙ rw (c .before .shortfall .ensures)
+    (come-cut (l .before .before .before .args .rate) (l .loop .inv .1) (l .loop .inv .0 .0) (f .before .before .before .before .field-at .ensures) (answered f)
+    (t .enum-told .given .1)))
     (λ c. omega (arith, read c, c .before .before .before .before .before .before .before .before .loop .inv .1 .passed))
     (λ c κs. search needs)
     (λ c. rw (c .kept-by .ensures) (omega (arith, read (c .before), c .before .before .before .before .before .before .before .before .before .loop .inv .1 .passed)))
