@@ -10,4 +10,4 @@ afterField at width = at + width
 -- after a frame: the bit after it, or `at` itself where the bits end first
 abbrev pub afterFrame : ℕ → FrameAnswer → ℕ
 afterFrame at (Whole f next) = next
-afterFrame at Cut = at
+afterFrame at (Cut h) = at

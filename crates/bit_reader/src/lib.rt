@@ -36,7 +36,7 @@ fn bit_after(at: usize, answer: FrameAnswer) -> usize
 {
     match answer {
         FrameAnswer::Whole(_, next) => next,
-        FrameAnswer::Cut => at,
+        FrameAnswer::Cut(_) => at,
     }
 }
 

@@ -10,8 +10,9 @@ use lib.Seq.{take-suc-set, take-add, take-append-le, drop-append-le, drop-append
 use mathlib.Core.Logic.{_↔_}
 use Rattle.rom.specs.Bits.{digits, bit, Begins}
 use Rattle.rom.specs.Items.{ItemAnswer, whole, cut}
+use Rattle.rom.specs.declared.reader.Shortfall.{Shortfall}
 use Rattle.rom.proofs.Encoding.{begins-room, begins-split, begins-join}
-use Rattle.rom.proofs.Prefixed.{prefixed-law}
+use Rattle.rom.proofs.Prefixed.{prefixed-cut, prefixed-law}
 use Rattle.fifo.specs.declared.Fifo.{Fifo}
 use Rattle.fifo.specs.Buffer.{bitsOfByte, bitsOfBytes}
 use Rattle.fifo.specs.Laws.{Fits, HeldLength, HeldAppended, HeldUsed, HeldFrame, HeldCut}
@@ -114,12 +115,14 @@ held-frame Q P f i n h =
     let room : f .«used_bits» ≤ 8 * length s = omega (arith, length-take-le (f .level) (f .bytes) (within f h), h .used) in
     simp (begins-is s (f .«used_bits») room) at (prefixed-law Q P s .law (f .«used_bits») i n)
 
-no-whole : {A : Type 0} (t : ItemAnswer A) → ((i : A) (n : ℕ) → t ≡ whole i n → ⊥) → t ≡ cut
+no-whole : {A : Type 0} (t : ItemAnswer A) → ((i : A) (n : ℕ) → t ≡ whole i n → ⊥) → (h : Shortfall) × (t ≡ cut h)
 no-whole (whole i n) h = absurd (h i n refl)
-no-whole cut h = refl
+no-whole (cut x) h = (x, refl)
 
 pub held-cut : HeldCut
 held-cut Q P f h = (
   λ e i p b. let w = held-frame Q P f i _ h .1 (p, b, refl) in let z : _≡_ {A = ℕ} 0 1 = cc in absurd (omega arith),
-  λ none. no-whole _ (λ i n e. let r = held-frame Q P f i n h .0 e in none i (r .0) (r .1)),
+  λ none.
+      let c = no-whole _ (λ i n e. let r = held-frame Q P f i n h .0 e in none i (r .0) (r .1)) in
+      c .1 ∙ ap cut (prefixed-cut Q P (take (f .level) (f .bytes)) (f .«used_bits») (c .1)),
 )

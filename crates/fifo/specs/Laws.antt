@@ -5,6 +5,7 @@ use mathlib.Core.List.{_++_, IsPrefix}
 use Prim.Native.Nat.{ℕ, _+_, _*_, _-_, _<_, _≤_}
 use lib.ListN.{length, take, drop}
 use Rattle.rom.specs.Items.{whole, cut}
+use Rattle.rom.specs.Reader.{shortOf}
 use Rattle.rom.specs.Prefix.{prefixedCode, readPrefixed}
 use Rattle.rom.specs.declared.frames.Frame.{Frame}
 use Rattle.fifo.specs.declared.Fifo.{Fifo}
@@ -37,9 +38,10 @@ HeldFrame =
     → (readPrefixed Q P (take (f .level) (f .bytes)) (f .«used_bits») ≡ whole i next)
     ↔ (prefixedCode Q P .Proper i × IsPrefix (prefixedCode Q P .bits i) (heldBits f) × (next ≡ f .«used_bits» + length (prefixedCode Q P .bits i)))
 
--- It returns that the bits end exactly when those held begin with the bits of no proper item.
+-- It returns that the bits end, and how short they are, exactly when those held begin with the bits of no proper item.
 abbrev pub HeldCut : Type 0
 HeldCut =
     (Q P : ℕ) (f : Fifo) → Fits f
-    → (readPrefixed Q P (take (f .level) (f .bytes)) (f .«used_bits») ≡ cut)
+    → let held = take (f .level) (f .bytes) in
+    (readPrefixed Q P held (f .«used_bits») ≡ cut (shortOf P held (f .«used_bits») (f .«used_bits» + Q)))
     ↔ ((i : ℕ × Frame) → prefixedCode Q P .Proper i → IsPrefix (prefixedCode Q P .bits i) (heldBits f) → ⊥)
