@@ -7,6 +7,7 @@ use Rattle.rom.specs.Frames.{isStop, Proper, numbersOf}
 use Rattle.rom.specs.declared.frames.Frame.{Frame}
 use Rattle.rom.specs.declared.frames.Frame.the-variants.{Stop}
 use Rattle.rom.specs.declared.frames.MaybeFrame.{MaybeFrame}
+use Rattle.rom.specs.declared.reader.Shortfall.{Shortfall}
 use Rattle.rom.specs.declared.frames.MaybeFrame.the-variants.{Some, None}
 use Rattle.reports.specs.Types.{Details, Report, NoReport, FrameReport, StopReport, RanOut, Action, Silent, Rest, Begin, Interpolate, Continue}
 
@@ -32,13 +33,21 @@ reportNumbers r = reportNumber r ∷ numbersOf (reportFrame r)
 abbrev pub frameReport : Frame → Report
 frameReport f = cond (isStop f) StopReport (FrameReport f)
 
--- with nothing besides
-abbrev pub noDetails : Details
-noDetails = record { rate = 0 }
-
 -- with a frame's rate bits
 abbrev pub rated : ℕ → Details
-rated q = record { rate = q }
+rated q = record { rate = q; begun = 0; «used_up» = 0; missing = 0 }
+
+-- with nothing besides
+abbrev pub noDetails : Details
+noDetails = rated 0
+
+-- running out in the ROM, with the bit at which the cut frame begins and the bits that it lacks (02, §4)
+abbrev pub outOfRom : Shortfall → Details
+outOfRom h = record { rate = 0; begun = h .begun; «used_up» = 0; missing = h .missing }
+
+-- running out in the FIFO, with the bits used up and those that the frame lacks, and no place (02, §4)
+abbrev pub outOfFifo : ℕ → ℕ → Details
+outOfFifo used missing = record { rate = 0; begun = 0; «used_up» = used; missing = missing }
 
 -- what the sound counts on: a frame that begins is one of the table, and an interval is one of a frame's
 abbrev pub Playable : ℕ → Action → Type 0

@@ -1,10 +1,11 @@
 // What a sample step reports, and what it asks of the sound.
 ghost use mathlib.Core.Path.{_≡_};
-ghost use Rattle.reports.specs.Reports.{reportNumber, reportFrame, frameReport, noDetails, rated};
+ghost use Rattle.reports.specs.Reports.{reportNumber, reportFrame, frameReport, noDetails, rated, outOfRom, outOfFifo};
 use base::units::Intervals;
 use rom::frames::Frame;
 use rom::frames::MaybeFrame;
 use rom::frames::is_stop;
+use rom::reader::Shortfall;
 
 // What a step reports.
 pub enum Report {
@@ -18,19 +19,52 @@ pub enum Report {
 pub struct Details {
     // The rate bits of the frame reported, where it has any.
     pub rate: u8,
+    // Ran out in the ROM: the bit at which the cut frame begins.
+    pub begun: usize,
+    // Ran out in the FIFO: the bits that are used up.
+    pub used_up: usize,
+    // Ran out: the bits that the cut frame lacks.
+    pub missing: usize,
 }
 
 impl Details {
     pub fn none() -> Details
         ensures { λ r. ⌜ r ≡ noDetails ⌝ }
     {
-        Details { rate: 0 }
+        Self::rated(0)
     }
 
     pub fn rated(rate: u8) -> Details
         ensures { λ r. ⌜ r ≡ rated rate ⌝ }
     {
-        Details { rate }
+        Details {
+            rate,
+            begun: 0,
+            used_up: 0,
+            missing: 0,
+        }
+    }
+
+    pub fn out_of_rom(short: Shortfall) -> Details
+        ensures { λ r. ⌜ r ≡ outOfRom short ⌝ }
+    {
+        Details {
+            rate: 0,
+            begun: short.begun,
+            used_up: 0,
+            missing: short.missing,
+        }
+    }
+
+    pub fn out_of_fifo(used_up: usize, missing: usize) -> Details
+        ensures { λ r. ⌜ r ≡ outOfFifo «used_up» missing ⌝ }
+    {
+        Details {
+            rate: 0,
+            begun: 0,
+            used_up,
+            missing,
+        }
     }
 }
 

@@ -31,7 +31,7 @@ use Rattle.control.specs.State.{withClock}
 use Rattle.control.specs.Validity.{speaks, isIdle, fifoValid, portValid}
 use Rattle.control.specs.Status.{raisedPort}
 use Rattle.control.proofs.Ranges.{ControlRanges, mode-ranges}
-use Rattle.speech.specs.Types.{Mode, Idle, Rom, Waiting, External, Fifo, Port, Clock, Control, NoReport, Action, Silent, Rest, Begin, Interpolate, Continue, Moved}
+use Rattle.speech.specs.Types.{Mode, Idle, Rom, Waiting, External, Fifo, Port, Clock, Control, Details, NoReport, Action, Silent, Rest, Begin, Interpolate, Continue, Moved}
 use Rattle.speech.specs.Advance.{within, raises, changed, frameBegun, ranOut, fromRom, fromFifo, formOf, heldBytes, rested, boundaryIn, advanced}
 
 -- ---- the FIFO with bits gone
@@ -107,8 +107,8 @@ module _ (P : ℕ) (image : List ℕ) (small : length image ≤ imageLimit) (k :
         device = r .device;
       }
 
-  out-kept : (p : ℕ) (f : Fifo) → p ≤ positionLimit → fifoValid Idle f ≡ true → Kept P k (ranOut k p f)
-  out-kept p f l h = record { control = changed-ranges Idle p f (stopped (k .clock)) l (λ i. refl) h refl; sounds = refl; playable = tt; device = refl }
+  out-kept : (p : ℕ) (f : Fifo) (d : Details) → p ≤ positionLimit → fifoValid Idle f ≡ true → Kept P k (ranOut k p f d)
+  out-kept p f d l h = record { control = changed-ranges Idle p f (stopped (k .clock)) l (λ i. refl) h refl; sounds = refl; playable = tt; device = refl }
 
   rest-kept : speaks (k .mode) ≡ false → Kept P k (rested k)
   rest-kept e = record { control = record { address = r .address; fifo = r .fifo; port = r .port; clock = rw e; device = r .device }; sounds = refl; playable = tt; device = refl }
@@ -137,7 +137,7 @@ module _ (P : ℕ) (image : List ℕ) (small : length image ≤ imageLimit) (k :
     rom-kept m (whole i next) a =
         let w = read-law image (k .address .position) i next a in
         begun-kept i next (k .fifo) (w .0 .1) (omega (arith, begins-room image (k .address .position) (itemCode (formOf P k) .bits i) (w .1), w .2)) (λ n. r .fifo)
-    rom-kept m cut a = out-kept _ (k .fifo) (omega (arith, address)) (subst (λ (m : Mode). fifoValid m (k .fifo) ≡ true) m (r .fifo))
+    rom-kept m (cut h) a = out-kept _ (k .fifo) _ (omega (arith, address)) (subst (λ (m : Mode). fifoValid m (k .fifo) ≡ true) m (r .fifo))
 
     fifo-kept : k .mode ≡ External → (x : ItemAnswer Item) → readItem (formOf P k) (heldBytes k) (k .fifo .«used_bits») ≡ x → Kept P k (fromFifo k x)
     fifo-kept m (whole i next) a =
@@ -146,8 +146,8 @@ module _ (P : ℕ) (image : List ℕ) (small : length image ≤ imageLimit) (k :
         (λ t.
         begun-kept i (k .address .position) (usedUp (k .fifo) next) (read-law (heldBytes k) (k .fifo .«used_bits») i next a .0 .1) (address .0)
         (λ n. rw m (used-up-valid (k .fifo) next external (ltb-true _ _ (rw n at t)))))
-        (λ t. out-kept (k .address .position) (emptied (k .fifo)) (address .0) refl)
-    fifo-kept m cut a = out-kept (k .address .position) (emptied (k .fifo)) (address .0) refl
+        (λ t. out-kept (k .address .position) (emptied (k .fifo)) _ (address .0) refl)
+    fifo-kept m (cut h) a = out-kept (k .address .position) (emptied (k .fifo)) _ (address .0) refl
 
     boundary-kept : (m : Mode) → k .mode ≡ m → Kept P k (boundaryIn P m image k)
     boundary-kept Idle e = rest-kept (ap speaks e)

@@ -2,7 +2,7 @@
 -- voice file or on the sound. P is the width of the pitch field.
 use mathlib.Core.Bool.{Bool, not, cond, _&&_, _||_}
 use mathlib.Core.List.{List}
-use Prim.Native.Nat.{ℕ, _*_, max}
+use Prim.Native.Nat.{ℕ, _*_, _-_, max}
 use lib.Dec.{ltb}
 use lib.ListN.{length, take}
 use Rattle.rom.specs.Frames.{isStop}
@@ -12,12 +12,12 @@ use Rattle.clock.specs.Counters.{stopped, begun, counted, intervalBegins, frame
 use Rattle.fifo.specs.Buffer.{emptied, usedUp, bufferLow, bufferEmpty}
 use Rattle.rates.specs.Rates.{skippedWith}
 use Rattle.rates.specs.Form.{Form, rateForm, Item, readItem}
-use Rattle.reports.specs.Reports.{frameReport, noDetails, rated}
+use Rattle.reports.specs.Reports.{frameReport, noDetails, rated, outOfRom, outOfFifo}
 use Rattle.control.specs.Device.{rateOf}
 use Rattle.control.specs.State.{withMode, withAddress, withFifo, withPort, withClock}
 use Rattle.control.specs.Validity.{speaks}
 use Rattle.control.specs.Status.{raisedPort}
-use Rattle.speech.specs.Types.{Mode, Idle, Rom, Waiting, External, Fifo, Clock, Control, NoReport, RanOut, Action, Silent, Rest, Begin, Interpolate, Continue, Moved}
+use Rattle.speech.specs.Types.{Mode, Idle, Rom, Waiting, External, Fifo, Clock, Control, Details, NoReport, RanOut, Action, Silent, Rest, Begin, Interpolate, Continue, Moved}
 
 -- the interrupt is set when TS falls or BL or BE rises
 abbrev pub raises : Control → Mode → Fifo → Bool
@@ -43,20 +43,24 @@ frameBegun k (q, f) p held =
     }
 
 -- running out: idle, sound at rest at once
-abbrev pub ranOut : Control → ℕ → Fifo → Moved
-ranOut k p held = record { control = changed k Idle p held (stopped (k .clock)); action = Rest; report = RanOut; details = noDetails }
+abbrev pub ranOut : Control → ℕ → Fifo → Details → Moved
+ranOut k p held d = record { control = changed k Idle p held (stopped (k .clock)); action = Rest; report = RanOut; details = d }
 
 -- from ROM: if it ends inside a frame or before its first bit, the position goes to the image's end, or stays if past it
 abbrev pub fromRom : List ℕ → Control → ItemAnswer Item → Moved
 fromRom image k (whole i next) = frameBegun k i next (k .fifo)
-fromRom image k cut = ranOut k (max (k .address .position) (8 * length image)) (k .fifo)
+fromRom image k (cut h) = ranOut k (max (k .address .position) (8 * length image)) (k .fifo) (outOfRom h)
 
--- from the FIFO: if its bits end inside a frame, or exactly with a frame other than a stop, they are used up
+-- running out in the FIFO: all bits held are used up
+abbrev pub fifoOut : Control → ℕ → Moved
+fifoOut k missing =
+    ranOut k (k .address .position) (emptied (k .fifo)) (outOfFifo (8 * k .fifo .level - k .fifo .«used_bits») missing)
+
+-- from the FIFO: if its bits end inside a frame, or exactly with a frame other than a stop, they are used up; the latter lacks no bit
 abbrev pub fromFifo : Control → ItemAnswer Item → Moved
 fromFifo k (whole i next) =
-    cond (isStop (i .1) || ltb next (8 * k .fifo .level)) (frameBegun k i (k .address .position) (usedUp (k .fifo) next))
-    (ranOut k (k .address .position) (emptied (k .fifo)))
-fromFifo k cut = ranOut k (k .address .position) (emptied (k .fifo))
+    cond (isStop (i .1) || ltb next (8 * k .fifo .level)) (frameBegun k i (k .address .position) (usedUp (k .fifo) next)) (fifoOut k 0)
+fromFifo k (cut h) = fifoOut k (h .missing)
 
 -- how the device's frames stand in the bits, at the rate that is set
 abbrev pub formOf : ℕ → Control → Form

@@ -3,6 +3,7 @@ pub use Rattle.fifo.specs.declared.Fifo.{Fifo}
 pub use Rattle.clock.specs.declared.Clock.{Clock}
 pub use Rattle.reports.specs.declared.Report.{Report}
 pub use Rattle.reports.specs.declared.Report.the-variants.{Nothing as NoReport, RanOut}
+pub use Rattle.reports.specs.declared.Details.{Details}
 pub use Rattle.reports.specs.declared.Action.{Action}
 pub use Rattle.reports.specs.declared.Action.the-variants.{Silent, Rest, Begin, Interpolate, Continue}
 pub use Rattle.control.specs.declared.state.Mode.{Mode}

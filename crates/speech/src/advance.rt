@@ -2,7 +2,7 @@
 // parameter.
 ghost use mathlib.Core.Path.{_≡_};
 ghost use mathlib.Core.Bool.{true};
-ghost use Prim.Native.Nat.{_≤_};
+ghost use Prim.Native.Nat.{_≤_, _<_};
 ghost use lib.ListN.{length};
 ghost use Rattle.rom.specs.Bits.{imageLimit};
 ghost use Rattle.address.specs.Addresses.{positionLimit};
@@ -10,7 +10,7 @@ ghost use Rattle.clock.specs.Counters.{lastSample};
 ghost use Rattle.fifo.specs.Buffer.{fifoSize};
 ghost use Rattle.rates.specs.Form.{readItem};
 ghost use Rattle.control.specs.Validity.{controlValid};
-ghost use Rattle.speech.specs.Advance.{raises, changed, frameBegun, ranOut, fromRom, fromFifo, formOf, heldBytes, rested, boundaryIn, within, advanced};
+ghost use Rattle.speech.specs.Advance.{raises, changed, frameBegun, ranOut, fromRom, fifoOut, fromFifo, formOf, heldBytes, rested, boundaryIn, within, advanced};
 use clock::Clock;
 use control::state::Control;
 use control::state::Mode;
@@ -23,7 +23,7 @@ use rom::bits::field_at;
 use rom::frames::Frame;
 use rom::frames::is_stop;
 use rom::reader::FrameAnswer;
-use rom::reader::frame_at;
+use rom::reader::frame_from;
 
 // The control after a step, what it asks of the sound, what it reports, and what it gives besides.
 pub struct Moved {
@@ -95,8 +95,8 @@ fn begin_frame(control: Control, bits: u8, frame: Frame, position: usize, held: 
 }
 
 // Running out: idle, and the sound goes to rest at once.
-fn run_out(control: Control, position: usize, held: Fifo) -> Moved
-    ensures { λ r. ⌜ r ≡ ranOut control position held ⌝ }
+fn run_out(control: Control, position: usize, held: Fifo, details: Details) -> Moved
+    ensures { λ r. ⌜ r ≡ ranOut control position held details ⌝ }
 {
     let clock = control.clock;
     let next = change(control, Mode::Idle, position, held, clock.stop());
@@ -104,7 +104,7 @@ fn run_out(control: Control, position: usize, held: Fifo) -> Moved
         control: next,
         action: Action::Rest,
         report: Report::RanOut,
-        details: Details::none(),
+        details,
     }
 }
 
@@ -122,21 +122,35 @@ fn from_rom(control: Control, image: &[u8], pitch_bits: usize) -> Moved
     let rate = device.rate();
     let prefix = rate.prefix_bits();
     let bits = field_at(image, position, prefix);
-    let answer = frame_at(image, position + prefix, pitch_bits);
+    let answer = frame_from(image, position, position + prefix, pitch_bits);
     let FrameAnswer::Whole(frame, next) = answer else {
+        let details = Details::out_of_rom(answer.shortfall());
         let end = 8 * image.len();
         if position < end {
-            return run_out(control, end, held);
+            return run_out(control, end, held, details);
         } else {
-            return run_out(control, position, held);
+            return run_out(control, position, held, details);
         }
     };
     begin_frame(control, bits, frame, next, held)
 }
 
+// Running out in the FIFO, in a frame that lacks some bits, or none.
+fn fifo_out(control: Control, missing: usize) -> Moved
+    requires { ⌜ (0 < control .fifo .level) × (control .fifo .«used_bits» ≤ 7) ⌝ }
+    ensures { λ r. ⌜ r ≡ fifoOut control missing ⌝ }
+{
+    let position = control.address.position;
+    let held = control.fifo;
+    let used_up = 8 * held.level as usize - held.used_bits as usize;
+    let details = Details::out_of_fifo(used_up, missing);
+    run_out(control, position, held.discard(), details)
+}
+
 // A frame from the FIFO, or its end.
 fn from_fifo(control: Control, pitch_bits: usize) -> Moved
     requires { ⌜ («pitch_bits» ≤ 8)
+        × (0 < control .fifo .level)
         × (control .fifo .level ≤ fifoSize)
         × (control .fifo .«used_bits» ≤ 7)
         × (control .clock .sample .0 ≤ lastSample) ⌝ }
@@ -151,15 +165,16 @@ fn from_fifo(control: Control, pitch_bits: usize) -> Moved
     let rate = device.rate();
     let prefix = rate.prefix_bits();
     let bits = field_at(&bytes[..level], used, prefix);
-    let answer = frame_at(&bytes[..level], used + prefix, pitch_bits);
+    let answer = frame_from(&bytes[..level], used, used + prefix, pitch_bits);
     let FrameAnswer::Whole(frame, next) = answer else {
-        return run_out(control, position, held.discard());
+        let short = answer.shortfall();
+        return fifo_out(control, short.missing);
     };
     let stop = is_stop(frame);
     if stop | (next < 8 * level) {
         begin_frame(control, bits, frame, position, held.use_up(next))
     } else {
-        run_out(control, position, held.discard())
+        fifo_out(control, 0)
     }
 }
 

@@ -26,7 +26,7 @@ use-up-requires : tie.Need-use-up-requires
 use-up-requires c κs =
     let f = c .before .before .before .before .before in
     let s = start (f .before .before .before .before) in
-    (omega (arith, whole-frame _ (heldBytes (s .args .control)) _ (f .frame-at .ensures) (c .before .before .before .answer .given .1) .inside, lent s), s .pre .1)
+    (omega (arith, whole-frame _ (heldBytes (s .args .control)) _ _ (f .frame-from .ensures) (c .before .before .before .answer .given .1) .inside, lent s), s .pre .2)
 
 pub from-fifo-spec : {M : Type 1} → statement M
 from-fifo-spec =
@@ -44,22 +44,22 @@ from-fifo-spec =
     let p = f .before .before .before .before in
     let k = start p .args .control in
     fifo-cut _ k
-    (item-cut _ k _ _ (p .before .rate .ensures) (p .prefix-bits .ensures) (f .before .before .field-at .ensures) (f .frame-at .ensures) (c .before .before .enum-told .given .1))
-    (rw (c .before .discard .ensures) at (c .run-out .ensures)))
+    (item-cut _ k _ _ (p .before .rate .ensures) (p .prefix-bits .ensures) (f .before .before .field-at .ensures) (f .frame-from .ensures) (c .before .before .enum-told .given .1))
+    (rw (c .before .shortfall .ensures) at (c .fifo-out .ensures)))
     (λ c κs. search needs) (λ c. search needs)
     use-up-requires
-    (λ c κs. search needs) (λ c κs. search needs) (λ c κs. search needs)
+    (λ c κs. search needs) (λ c κs. search needs)
     (λ c.
     let f = c .before .before .before .before .before .before .before in
     let p = f .before .before .before .before in
     let k = start p .args .control in
     fifo-whole _ k
-    (item-whole _ k _ _ (p .before .rate .ensures) (p .prefix-bits .ensures) (f .before .before .field-at .ensures) (f .frame-at .ensures) (c .before .before .before .before .before .answer .given .1))
+    (item-whole _ k _ _ (p .before .rate .ensures) (p .prefix-bits .ensures) (f .before .before .field-at .ensures) (f .frame-from .ensures) (c .before .before .before .before .before .answer .given .1))
     (rw (c .before .before .before .is-stop .ensures) at (c .before .before .if1 .taken)) (rw (c .before .use-up .ensures) at (c .begin-frame .ensures)))
     (λ c.
-    let f = c .before .before .before .before .before .before .before in
+    let f = c .before .before .before .before .before .before in
     let p = f .before .before .before .before in
     let k = start p .args .control in
     fifo-ended _ k
-    (item-whole _ k _ _ (p .before .rate .ensures) (p .prefix-bits .ensures) (f .before .before .field-at .ensures) (f .frame-at .ensures) (c .before .before .before .before .before .answer .given .1))
-    (rw (c .before .before .before .is-stop .ensures) at (c .before .before .if1 .left)) (rw (c .before .discard2 .ensures) at (c .run-out2 .ensures))))
+    (item-whole _ k _ _ (p .before .rate .ensures) (p .prefix-bits .ensures) (f .before .before .field-at .ensures) (f .frame-from .ensures) (c .before .before .before .before .answer .given .1))
+    (rw (c .before .before .is-stop .ensures) at (c .before .if1 .left)) (c .fifo-out2 .ensures)))

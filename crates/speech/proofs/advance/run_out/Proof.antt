@@ -5,5 +5,5 @@ use Rattle.speech.proofs.advance.run_out.Tie as tie
 
 pub run-out-spec : {M : Type 1} → statement M
 run-out-spec =
-    tie.close (tie.spec (λ c κs. search needs) (λ c κs. search needs) (λ c κs. search needs)
-    (λ c. rw (c .none .ensures, c .before .change .ensures, c .before .before .stop .ensures)))
+    tie.close (tie.spec (λ c κs. search needs) (λ c κs. search needs)
+    (λ c. rw (c .change .ensures, c .before .stop .ensures)))
