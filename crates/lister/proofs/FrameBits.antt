@@ -25,7 +25,7 @@ bits-most (Voiced e p k1 k2 k3 k4 k5 k6 k7 k8 k9 k10) = omega arith
 
 taken-most : (t : FrameAnswer) → takenOf pitchBits t .bits ≤ 50
 taken-most (Whole f next) = bits-most f
-taken-most Cut = omega arith
+taken-most (Cut h) = omega arith
 
 pub next-fits : (s : List ℕ) (at : ℕ) → at < 2 ^ 64 → at + frameTakenOf pitchBits s at .bits < 2 ^ 64
 unfolding frameTakenOf

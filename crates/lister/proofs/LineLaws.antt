@@ -10,7 +10,7 @@ use lib.ListN.{length, take, drop, getD, length-append}
 use lib.Seq.{getD-drop}
 use Rattle.base.proofs.Booleans.{by-test}
 use Rattle.lister.specs.Text.{codes, decimal}
-use Rattle.lister.specs.Lines.{kindWord, pitchText, kCount, indexes, frameLine, phraseLine, refusedLine}
+use Rattle.lister.specs.Lines.{kindWord, pitchText, kCount, indexes, frameLine, phraseLine, refusedLine, cutLine}
 use Rattle.lister.proofs.Decimals.{decimal-length}
 
 -- one more K index
@@ -51,6 +51,13 @@ indexes-length (suc n) (k ∷ ks) h =
 pub refused-length : (n : ℕ) → n < 2 ^ 64 → length (refusedLine n) ≤ 80
 unfolding refusedLine
 refused-length n h = let d = decimal-length 19 n (omega arith) in simp length-append (omega arith)
+
+pub cut-length : (begun missing : ℕ) → begun < 2 ^ 64 → missing < 2 ^ 64 → length (cutLine begun missing) ≤ 80
+unfolding cutLine
+cut-length begun missing b m =
+    let db = decimal-length 19 begun (omega arith) in
+    let dm = decimal-length 19 missing (omega arith) in
+    simp length-append (omega arith)
 
 pub phrase-length : (a b c : ℕ) → a < 2 ^ 32 → b < 2 ^ 64 → c < 2 ^ 64 → length (phraseLine a b c) ≤ 80
 unfolding phraseLine

@@ -10,8 +10,10 @@ use Rattle.base.specs.Refusals.{TAKEN, IMAGE}
 use Rattle.rom.specs.Frames.{pitchBits}
 use Rattle.rom.specs.Phrases.{framesAt, walkOf, phraseOf}
 use Rattle.rom.specs.declared.phrases.Walked.{Walked}
-use Rattle.lister.specs.Lines.{phraseLine, refusedLine}
+use Rattle.lister.specs.Lines.{phraseLine, refusedLine, walkLine}
 use Rattle.lister.specs.declared.asked.Asked.{Asked}
+use Rattle.lister.specs.declared.text.Text.{Text}
+use Rattle.lister.specs.Text.{contents}
 use Rattle.lister.specs.Listing.{linesOf, linesFrom, listingOf}
 use Rattle.rom.proofs.Checks.{valid-length}
 use Rattle.rom.proofs.Theorems.{phrase-inside, walk-accepts, walk-counts}
@@ -23,7 +25,7 @@ module _ (q : Asked) (s : List ℕ) where
   listing-long h = rw (lt-ltb (q .most) (length s) h)
 
   module _ (h : length s ≤ q .most) (w : Walked) (e : w ≡ walkOf pitchBits s (q .address)) where
-    pub listing-refused : (w .refusal ≡ TAKEN → ⊥) → listingOf q s ≡ refusedLine (w .refusal)
+    pub listing-refused : (w .refusal ≡ TAKEN → ⊥) → listingOf q s ≡ walkLine w
     unfolding listingOf
     listing-refused r = rw (le-ltb (q .most) (length s) h, ← e, ne-eqb (w .refusal) TAKEN r)
 
@@ -49,7 +51,7 @@ first-fits s a w e r =
     omega (arith, phrase-inside pitchBits s a (p .1 .1), valid-length s (p .0) .1)
 
 -- a line that no frame line follows is the whole listing
-pub alone : (s : List ℕ) (bit lines : ℕ) {text line all : List ℕ} → (text ≡ line) × (lines ≡ 0) → all ≡ line
-    → text ++ linesFrom s bit lines ≡ all
+pub line-alone : (s : List ℕ) (bit lines : ℕ) {text t : Text} {line all : List ℕ} → (text ≡ t) × (lines ≡ 0) → contents t ≡ line → all ≡ line
+    → contents text ++ linesFrom s bit lines ≡ all
 unfolding linesFrom
-alone s bit lines {text} {line} {all} r e = rw (r .0, r .1, e) (append-nil line)
+line-alone s bit lines {text} {t} {line} {all} r l e = rw (r .0, r .1, l, e) (append-nil line)

@@ -4,6 +4,8 @@ use mathlib.Core.List.{List, [], _∷_, _++_}
 use Prim.Native.Nat.{ℕ}
 use lib.Dec.{eqb, leb}
 use lib.ListN.{take, drop, getD}
+use Rattle.base.specs.Refusals.{NO-PHRASE}
+use Rattle.rom.specs.declared.phrases.Walked.{Walked}
 use Rattle.lister.specs.Text.{codes, decimal}
 
 -- the word for a kind's number: 1 silence, 2 stop, 3 repeat, 4 unvoiced, 5 voiced; no frame, which no listing has, is `none`
@@ -44,3 +46,11 @@ phraseLine frames bits bytes =
 -- `refused` and the number
 unfoldable pub refusedLine : ℕ → List ℕ
 refusedLine n = codes "refused " ++ decimal n ++ codes "\n"
+
+-- `refused 10`, the bit at which the cut frame begins and the bits that it lacks (02, §4)
+unfoldable pub cutLine : ℕ → ℕ → List ℕ
+cutLine begun missing = codes "refused 10 " ++ decimal begun ++ codes " " ++ decimal missing ++ codes "\n"
+
+-- the line of a refused walk
+unfoldable pub walkLine : Walked → List ℕ
+walkLine w = cond (eqb (w .refusal) NO-PHRASE) (cutLine (w .short .begun) (w .short .missing)) (refusedLine (w .refusal))

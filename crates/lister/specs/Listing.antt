@@ -14,7 +14,7 @@ use Rattle.rom.specs.declared.frames.Frame.{Frame}
 use Rattle.rom.specs.declared.frames.MaybeFrame.the-variants.{Some}
 use Rattle.lister.specs.declared.asked.Asked.{Asked}
 use Rattle.lister.specs.declared.listing.Filled.{Filled}
-use Rattle.lister.specs.Lines.{frameLine, phraseLine, refusedLine}
+use Rattle.lister.specs.Lines.{frameLine, phraseLine, refusedLine, walkLine}
 use Rattle.lister.specs.Asked.{atStart, atAddress}
 
 -- the lines of the frames fs, one after another, the first of which begins at a bit
@@ -23,7 +23,7 @@ linesOf bit [] = []
 linesOf bit (f ∷ fs) = frameLine bit (numbersOf (Some f)) ++ linesOf (bit + bitCount pitchBits f) fs
 
 -- The listing of the image s from a byte address on: `refused 3` above the bytes that are taken; where the walk from there is
--- refused, `refused` and its number; else the phrase's line, with the bytes of its part of the image, and the lines of its
+-- refused, the line of that; else the phrase's line, with the bytes of its part of the image, and the lines of its
 -- frames, whose first bits are bits of the image.
 unfoldable pub listingOf : Asked → List ℕ → List ℕ
 listingOf asked s =
@@ -32,7 +32,7 @@ listingOf asked s =
     cond (ltb (asked .most) (length s)) (refusedLine IMAGE)
     (cond (eqb (w .refusal) TAKEN)
     (phraseLine (w .frames .0) (w .bits) (length (phraseOf pitchBits s a)) ++ linesOf (8 * a) (framesAt pitchBits s a))
-    (refusedLine (w .refusal)))
+    (walkLine w))
 
 -- what is printed without an argument (01)
 abbrev pub listing : List ℕ → List ℕ

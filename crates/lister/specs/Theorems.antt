@@ -5,14 +5,15 @@ use mathlib.Core.Bool.{true, false}
 use mathlib.Core.List.{List, [], _∷_, _++_}
 use Prim.Native.Nat.{ℕ, _+_, _*_, _/_, _≤_, _<_}
 use lib.ListN.{length}
-use Rattle.base.specs.Refusals.{BEYOND, IMAGE, NO-PHRASE}
+use Rattle.base.specs.Refusals.{BEYOND, IMAGE}
 use Rattle.rom.specs.Bits.{imageValid}
 use Rattle.rom.specs.Frames.{pitchBits}
 use Rattle.rom.specs.Items.{bitsAll}
-use Rattle.rom.specs.Phrases.{frameCode, PhraseAt}
+use Rattle.rom.specs.Phrases.{frameCode, PhraseAt, FramesThere}
+use Rattle.rom.specs.Reader.{shortOf}
 use Rattle.rom.specs.declared.frames.Frame.{Frame}
 use Rattle.lister.specs.Text.{codes, decimal}
-use Rattle.lister.specs.Lines.{phraseLine, refusedLine}
+use Rattle.lister.specs.Lines.{phraseLine, refusedLine, cutLine}
 use Rattle.lister.specs.declared.asked.Asked.{Asked}
 use Rattle.lister.specs.Asked.{atArgument}
 use Rattle.lister.specs.Listing.{linesOf, listingOf, listing, listingFrom}
@@ -25,12 +26,15 @@ ListsPhrase =
     → let bits = length (bitsAll (frameCode pitchBits) fs) in
     listingOf q s ≡ phraseLine (length fs) bits ((bits + 7) / 8) ++ linesOf (8 * q .address) fs
 
--- Where no phrase begins at an address in the image, it prints `refused 10`.
+-- Where no phrase begins at an address in the image, it prints `refused 10`, where the frame after the frames there begins, and how many
+-- bits that frame lacks.
 abbrev pub ListsNoPhrase : Type 0
 ListsNoPhrase =
     (q : Asked) (s : List ℕ) → imageValid s ≡ true → length s ≤ q .most → q .address < length s
     → ((fs : List Frame) → PhraseAt pitchBits s (q .address) fs → ⊥)
-    → listingOf q s ≡ refusedLine NO-PHRASE
+    → (fs : List Frame) → FramesThere pitchBits s (q .address) fs
+    → let begun = 8 * q .address + length (bitsAll (frameCode pitchBits) fs) in
+    listingOf q s ≡ cutLine begun (shortOf pitchBits s begun begun .missing)
 
 -- At or past the image's end it prints `refused 2`.
 abbrev pub ListsBeyond : Type 0
@@ -61,3 +65,7 @@ abbrev pub ListsExampleFrom : Type 0
 ListsExampleFrom =
     listingFrom 1 (0xFF ∷ 0x03 ∷ 0x83 ∷ 0xE0 ∷ [])
     ≡ codes "phrase 3 frames 19 bits 3 bytes\n8 silence 0 -\n12 repeat 3 1\n23 stop 15 -\n"
+
+-- The listing of 03 83, whose last frame begins at bit 15 and lacks 3 bits (02, §4).
+abbrev pub ListsExampleCut : Type 0
+ListsExampleCut = listing (0x03 ∷ 0x83 ∷ []) ≡ codes "refused 10 15 3\n"

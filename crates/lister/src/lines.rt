@@ -1,8 +1,8 @@
-// The three kinds of lines of a listing. Kinds are the numbers that rom::frames::numbers gives: 1 silence, 2 stop, 3 repeat,
+// The kinds of lines of a listing. Kinds are the numbers that rom::frames::numbers gives: 1 silence, 2 stop, 3 repeat,
 // 4 unvoiced, 5 voiced.
 ghost use mathlib.Core.Path.{_≡_};
 ghost use Rattle.lister.specs.Text.{contents, appended};
-ghost use Rattle.lister.specs.Lines.{kindWord, pitchText, kCount, indexes, frameLine, phraseLine, refusedLine};
+ghost use Rattle.lister.specs.Lines.{kindWord, pitchText, kCount, indexes, frameLine, phraseLine, refusedLine, cutLine, walkLine};
 ghost use Prim.Native.Nat.{_≤_};
 ghost use lib.ListN.{take, drop};
 use crate::text::Text;
@@ -10,6 +10,8 @@ use crate::text::empty;
 use crate::text::with_byte;
 use crate::text::with_number;
 use crate::text::with_word;
+use base::refusal::NO_PHRASE;
+use rom::phrases::Walked;
 
 // `refused` and the number.
 pub fn refused_line(refusal: u8) -> Text
@@ -17,6 +19,28 @@ pub fn refused_line(refusal: u8) -> Text
 {
     let t = with_word(empty(), b"refused ");
     with_byte(with_number(t, refusal as u64), b'\n')
+}
+
+// `refused 10`, the bit at which the cut frame begins and the bits that it lacks.
+fn cut_line(begun: usize, missing: usize) -> Text
+    ensures { λ r. ⌜ contents r ≡ cutLine begun missing ⌝ }
+{
+    let t = with_word(empty(), b"refused 10 ");
+    let t = with_byte(with_number(t, begun as u64), b' ');
+    with_byte(with_number(t, missing as u64), b'\n')
+}
+
+// The line of a refused walk.
+pub fn walk_line(walked: Walked) -> Text
+    ensures { λ r. ⌜ contents r ≡ walkLine walked ⌝ }
+{
+    let refusal = walked.refusal;
+    if refusal == NO_PHRASE {
+        let short = walked.short;
+        cut_line(short.begun, short.missing)
+    } else {
+        refused_line(refusal)
+    }
 }
 
 // `phrase`, and the numbers of frames, bits and bytes, each with its word.

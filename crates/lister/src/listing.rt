@@ -4,12 +4,12 @@ ghost use mathlib.Core.List.{_++_};
 ghost use Prim.Native.Nat.{_+_, _≤_};
 ghost use lib.ListN.{length, take};
 ghost use Rattle.lister.specs.Text.{contents};
-ghost use Rattle.lister.specs.Lines.{refusedLine};
 ghost use Rattle.lister.specs.Listing.{lineAt, after, linesFrom, listingOf, Fills};
 use crate::asked::Asked;
 use crate::lines::frame_line;
 use crate::lines::phrase_line;
 use crate::lines::refused_line;
+use crate::lines::walk_line;
 use crate::text::TEXT_SIZE;
 use crate::text::Text;
 use crate::text::size;
@@ -27,12 +27,12 @@ pub struct First {
     pub lines: u32,
 }
 
-// The line of a refusal, which no frame line follows.
-fn refused(refusal: u8) -> First
-    ensures { λ r. ⌜ (contents (r .text) ≡ refusedLine refusal) × (r .lines ≡ 0) ⌝ }
+// A line that no frame line follows.
+fn alone(text: Text) -> First
+    ensures { λ r. ⌜ (r .text ≡ text) × (r .lines ≡ 0) ⌝ }
 {
     First {
-        text: refused_line(refusal),
+        text,
         bit: 0,
         lines: 0,
     }
@@ -44,12 +44,12 @@ pub fn first_line(image: &[u8], asked: Asked) -> First
 {
     let address = asked.address;
     if image.len() > asked.most {
-        return refused(IMAGE);
+        return alone(refused_line(IMAGE));
     }
     let walked = walk(image, address);
     let refusal = walked.refusal;
     if refusal != TAKEN {
-        return refused(refusal);
+        return alone(walk_line(walked));
     }
     let frames = walked.frames;
     let lines = frames.count();
