@@ -17,6 +17,7 @@ use rom::frames::numbers;
 use rom::phrases::Walked;
 use rom::phrases::phrase;
 use rom::phrases::walk;
+use rom::reader::Shortfall;
 use rom::reader::frame_taken;
 use voice::checks::voice_check;
 
@@ -54,6 +55,14 @@ fn frame(out: &mut [u8], at: usize, found: MaybeFrame) -> usize
     smalls(out, at, &list)
 }
 
+// Where a cut frame begins, and the bits that it lacks.
+fn cut(out: &mut [u8], at: usize, short: Shortfall) -> usize
+    ensures { λ r. ⌜ r ≤ length (now (out .entry)) ⌝ }
+{
+    let p = natural(out, at, short.begun as u64);
+    natural(out, p, short.missing as u64)
+}
+
 // `F`: a frame taken at a bit of an image.
 fn frame_line(out: &mut [u8], at: usize, image: &[u8], bit: usize) -> usize
     ensures { λ r. ⌜ r ≤ length (now (out .entry)) ⌝ }
@@ -63,6 +72,7 @@ fn frame_line(out: &mut [u8], at: usize, image: &[u8], bit: usize) -> usize
     let p = head(out, at, b'F', taken.refusal);
     let p = natural(out, p, taken.bits as u64);
     let p = frame(out, p, found);
+    let p = cut(out, p, taken.short);
     put(out, p, b'\n')
 }
 
@@ -76,6 +86,7 @@ pub fn rated_frame_line(out: &mut [u8], at: usize, image: &[u8], bit: usize, v: 
     let p = natural(out, p, taken.bits as u64);
     let p = frame(out, p, found);
     let p = small(out, p, taken.rate);
+    let p = cut(out, p, taken.short);
     put(out, p, b'\n')
 }
 
@@ -102,13 +113,14 @@ fn walked(out: &mut [u8], at: usize, letter: u8, walked: Walked) -> usize
     natural(out, p, samples.count())
 }
 
-// A walk, with the length of its part and the sum of the part's bytes.
+// A walk, with the length of its part, the sum of the part's bytes, and how short the image is.
 fn walked_line(out: &mut [u8], at: usize, letter: u8, numbers: Walked, part: &[u8]) -> usize
     ensures { λ r. ⌜ r ≤ length (now (out .entry)) ⌝ }
 {
     let p = walked(out, at, letter, numbers);
     let p = natural(out, p, part.len() as u64);
     let p = natural(out, p, sum(part));
+    let p = cut(out, p, numbers.short);
     put(out, p, b'\n')
 }
 
@@ -185,6 +197,9 @@ pub fn step_line(
     let p = small(out, p, report);
     let p = frame(out, p, found);
     let p = small(out, p, details.rate);
+    let p = natural(out, p, details.begun as u64);
+    let p = natural(out, p, details.used_up as u64);
+    let p = natural(out, p, details.missing as u64);
     put(out, p, b'\n')
 }
 
