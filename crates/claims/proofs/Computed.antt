@@ -2,7 +2,7 @@
 -- Assumes nothing.
 use mathlib.Core.Path.{refl}
 use Rattle.rom.specs.Bits.{bit, field, digits}
-use Rattle.rom.specs.Reader.{decoded, frameAt}
+use Rattle.rom.specs.Reader.{decoded, frameFrom}
 use Rattle.rom.specs.Items.{itemsFrom}
 use Rattle.rom.specs.Phrases.{walkOf}
 use Rattle.rates.specs.Walks.{ratedWalkOf}
@@ -16,9 +16,9 @@ use Rattle.claims.specs.Cases.{cases, CasesHold}
 use Rattle.claims.specs.CasesRated.{ratedCases, RatedCasesHold}
 
 pub cases-hold : CasesHold
-unfolding cases walkOf itemsFrom frameAt decoded field bit digits writeOf commandFault accepted valid controlValid soundValid atRest nextNoise noiseBit
+unfolding cases walkOf itemsFrom frameFrom decoded field bit digits writeOf commandFault accepted valid controlValid soundValid atRest nextNoise noiseBit
 cases-hold = refl
 
 pub rated-cases-hold : RatedCasesHold
-unfolding ratedCases ratedWalkOf itemsFrom frameAt decoded field bit digits writeOf commandFault accepted valid controlValid soundValid atRest
+unfolding ratedCases ratedWalkOf itemsFrom frameFrom decoded field bit digits writeOf commandFault accepted valid controlValid soundValid atRest
 rated-cases-hold = refl

@@ -2,8 +2,8 @@
 -- Assumes nothing.
 use mathlib.Core.Path.{_≡_, refl, sym, ap, _∙_, subst}
 use mathlib.Core.Bool.{true}
-use mathlib.Core.List.{_++_}
-use Prim.Native.Nat.{_+_, _*_}
+use mathlib.Core.List.{List, _++_}
+use Prim.Native.Nat.{ℕ, _+_, _*_}
 use lib.ListN.{length}
 use Rattle.rom.specs.Frames.{pitchBits}
 use Rattle.rom.specs.declared.phrases.Walked.{Walked}
@@ -27,10 +27,14 @@ rate-valid : (d : Device) → deviceValid d ≡ true → rateValid (rateOf d) �
 rate-valid Tms5220 v = refl
 rate-valid (Tms5220C r) v = v
 
+-- and so is the rate that bytes of Load Frame Rate leave
+pub rate-after-valid : (bs : List ℕ) → rateValid (rateAfter bs) ≡ true
+rate-after-valid bs = rate-valid (deviceAfter (Tms5220C powerUpRate) bs) (after-valid (Tms5220C powerUpRate) bs refl)
+
 pub demand-3-rated : Demand3Rated
 demand-3-rated image a i inside ls ms rs ts =
     let r = rateAfter (ls ++ ms) in
-    let valid = rate-valid (deviceAfter (Tms5220C powerUpRate) (ls ++ ms)) (after-valid (Tms5220C powerUpRate) (ls ++ ms) refl) in
+    let valid = rate-after-valid (ls ++ ms) in
     let opens = opening image a i inside (Tms5220C powerUpRate) refl ls ms rs ts in
     let speaks = core image a i inside r in
     record {

@@ -8,7 +8,7 @@ use borrow.Author.Tests.{eqb-false}
 use lib.ListN.{length}
 use Rattle.rom.specs.Bits.{bit, field, digits, imageValid}
 use Rattle.rom.specs.Frames.{pitchBits}
-use Rattle.rom.specs.Reader.{decoded, frameAt}
+use Rattle.rom.specs.Reader.{decoded, frameFrom}
 use Rattle.rom.specs.Items.{itemsFrom}
 use Rattle.rom.specs.Phrases.{framesAt}
 use Rattle.rom.proofs.Theorems.{frames-read}
@@ -33,10 +33,10 @@ holds e i inside f g h =
     }
 
 pub phrase-holds : Holds phrase
-unfolding itemsFrom frameAt decoded field bit Calls.WritesRefused Calls.answersDue dueFrom endFrom toldFrom voice voiceFault entriesValid twosComplement digits
+unfolding itemsFrom frameFrom decoded field bit Calls.WritesRefused Calls.answersDue dueFrom endFrom toldFrom voice voiceFault entriesValid twosComplement digits
 phrase-holds =
     holds phrase refl (omega arith) refl (tt, (eqb-false _ 0 refl, (tt, (tt, (tt, (tt, (tt, (tt, (tt, (tt, (tt, (eqb-false _ 0 refl, (tt, (tt, tt)))))))))))))) refl
 
 pub no-phrase-holds : Holds noPhrase
-unfolding itemsFrom frameAt decoded field bit Calls.WritesRefused Calls.answersDue dueFrom endFrom toldFrom voice voiceFault entriesValid twosComplement digits
+unfolding itemsFrom frameFrom decoded field bit Calls.WritesRefused Calls.answersDue dueFrom endFrom toldFrom voice voiceFault entriesValid twosComplement digits
 no-phrase-holds = holds noPhrase refl (omega arith) refl (tt, (tt, (tt, (tt, (eqb-false _ 0 refl, (tt, tt)))))) refl

@@ -8,7 +8,7 @@ use borrow.Author.Tests.{eqb-false}
 use lib.ListN.{length}
 use Rattle.rom.specs.Bits.{bit, field, digits, imageValid}
 use Rattle.rom.specs.Frames.{pitchBits}
-use Rattle.rom.specs.Reader.{decoded, frameAt}
+use Rattle.rom.specs.Reader.{decoded, frameFrom}
 use Rattle.rom.specs.Items.{itemsFrom}
 use Rattle.rates.specs.Walks.{itemsAt}
 use Rattle.rates.proofs.Theorems.{rated-there}
@@ -38,11 +38,11 @@ holds e i inside ls ms f g h =
     }
 
 pub variable-holds : RatedHolds variable
-unfolding itemsFrom frameAt decoded field bit Calls.WritesRefused Calls.answersDue dueFrom endFrom toldFrom voice voiceFault entriesValid twosComplement digits
+unfolding itemsFrom frameFrom decoded field bit Calls.WritesRefused Calls.answersDue dueFrom endFrom toldFrom voice voiceFault entriesValid twosComplement digits
 variable-holds =
     holds variable refl (omega arith) (refl, tt) (refl, (refl, tt)) refl
     (tt, (eqb-false _ 0 refl, (tt, (tt, (tt, (tt, (tt, (tt, (tt, (tt, (eqb-false _ 0 refl, (tt, tt)))))))))))) refl
 
 pub fixed-holds : RatedHolds fixed
-unfolding itemsFrom frameAt decoded field bit Calls.WritesRefused Calls.answersDue dueFrom endFrom toldFrom voice voiceFault entriesValid twosComplement digits
+unfolding itemsFrom frameFrom decoded field bit Calls.WritesRefused Calls.answersDue dueFrom endFrom toldFrom voice voiceFault entriesValid twosComplement digits
 fixed-holds = holds fixed refl (omega arith) (refl, tt) (refl, tt) refl (tt, (tt, (tt, (tt, (tt, (tt, (tt, tt))))))) refl

@@ -4,7 +4,7 @@
 use mathlib.Core.Path.{_≡_, refl, sym, ap, ap₂, _∙_, subst}
 use mathlib.Core.Bool.{true}
 use mathlib.Core.List.{List, [], _∷_}
-use Prim.Native.Nat.{ℕ, zero, suc, _+_, _*_, _≤_}
+use Prim.Native.Nat.{ℕ, zero, suc, _+_, _*_, _≤_, _<_}
 use native.Mathlib.Omega.{arith}
 use borrow.Author.Tests.{eq-eqb, ne-eqb, le-leb}
 use lib.Dec.{eqb}
@@ -14,8 +14,6 @@ use Rattle.base.specs.Steps.{stateAfter}
 use Rattle.base.proofs.Booleans.{by-test}
 use Rattle.rom.specs.Bits.{imageValid}
 use Rattle.rom.specs.Frames.{pitchBits}
-use Rattle.rates.specs.Form.{Item}
-use Rattle.rates.specs.Theorems.{ItemsThere}
 use Rattle.rates.specs.declared.rate.FrameRate.{FrameRate}
 use Rattle.rates.proofs.Rates.{rate-keeps}
 use Rattle.schedule.specs.Types.{Told, Speech}
@@ -40,8 +38,8 @@ use Rattle.chip.proofs.Ranges.{chip-ranges}
 use Rattle.chip.proofs.BusCalls.{write-refused}
 use Rattle.chip.proofs.KeptValid.{write-keeps-valid, read-keeps-valid, step-keeps-valid}
 use Rattle.claims.specs.Device.{ratedForm, stepGives, runGives, writeGives, chipOn, faultOf, refusedAs, chipTable}
-use Rattle.claims.specs.Answers.{AnswersDue}
-use Rattle.claims.specs.Opening.{Core}
+use Rattle.claims.specs.Demand3.{SpeakByte}
+use Rattle.claims.specs.Opening.{Ready, Core}
 use Rattle.claims.proofs.Answers.{obeys, step-by-voice, run-by-voice, write-fault, read-taken, read-status, read-chip, still-none, status-is}
 use Rattle.claims.proofs.Moves.{speechOf, Calm, moves}
 
@@ -123,33 +121,37 @@ module _ (image : List ℕ) (i : imageValid image ≡ true) (r : FrameRate) wher
     write-refused = λ b c s g. ap writeGives (sym (write-refused image c b (sym (number c b s)) g));
   }
 
+-- a chip that is ready takes Speak
+module _ (image : List ℕ) (a : ℕ) (i : imageValid image ≡ true) (inside : a < length image) (r : FrameRate) (c : Chip) (ready : Ready r a c)
+    (s : SpeakByte) where
+  spoke : writeOf image c (s .byte) ≡ record { chip = afterByte c (obeyed image (c .control) (s .byte) Speak); refusal = 0 }
+  spoke =
+      obeys image c (s .byte) Speak i (ready .is-valid) (ready .is-idle) (s .speak)
+      (rw (le-leb (c .control .address .position + 1) (8 * length image) (omega (arith, ready .at-byte))))
+
+  empty : c .control .fifo .level ≡ 0
+  empty = let f = mode-ranges (c .control .mode) (c .control .fifo) (chip-ranges c (ready .is-valid) .control .fifo) .at-most in let m : c .control .fifo .level ≤ 0 = rw (ready .is-idle) at f in omega arith
+
+  -- the chip that has taken it
+  abbrev pub speakingChip : Chip
+  speakingChip = writeOf image c (s .byte) .chip
+
+  pub speaking-still : Still r speakingChip
+  speaking-still = record {
+    is-valid = write-keeps-valid image c (s .byte) (ready .is-valid);
+    calm = subst (λ (w : Written). Calm r (w .chip .control)) (sym spoke) (record { mode = refl; level = empty; pending = refl; rate = ready .at-rate });
+  }
+
+  pub speaking-begins : chipSpeech speakingChip ≡ talkingFrom (8 * a) (c .control .clock)
+  speaking-begins =
+      ap (λ (w : Written). chipSpeech (w .chip)) spoke
+      ∙ ap (λ (p : ℕ). talkingFrom p (c .control .clock)) (ready .at-byte)
+
 pub core : Core
-core image a i inside r c ready s = (ap (λ (w : Written). w .refusal) taken, answers)
-  where
-    taken : writeOf image c (s .byte) ≡ record { chip = afterByte c (obeyed image (c .control) (s .byte) Speak); refusal = 0 }
-    taken =
-        obeys image c (s .byte) Speak i (ready .is-valid) (ready .is-idle) (s .speak)
-        (rw (le-leb (c .control .address .position + 1) (8 * length image) (omega (arith, ready .at-byte))))
-
-    empty : c .control .fifo .level ≡ 0
-    empty = let f = mode-ranges (c .control .mode) (c .control .fifo) (chip-ranges c (ready .is-valid) .control .fifo) .at-most in let m : c .control .fifo .level ≤ 0 = rw (ready .is-idle) at f in omega arith
-
-    -- the chip that has taken Speak
-    speaking : Chip
-    speaking = writeOf image c (s .byte) .chip
-
-    still : Still r speaking
-    still = record {
-      is-valid = write-keeps-valid image c (s .byte) (ready .is-valid);
-      calm = subst (λ (w : Written). Calm r (w .chip .control)) (sym taken) (record { mode = refl; level = empty; pending = refl; rate = ready .at-rate });
-    }
-
-    begins : chipSpeech speaking ≡ talkingFrom (8 * a) (c .control .clock)
-    begins =
-        ap (λ (w : Written). chipSpeech (w .chip)) taken
-        ∙ ap (λ (p : ℕ). talkingFrom p (c .control .clock)) (ready .at-byte)
-
-    answers : (is : List Item) → ItemsThere pitchBits r image a is → AnswersDue (ratedForm r) image a is speaking
-    answers is there =
-        answers-due (ratedForm r) (rate-keeps r pitchBits) (chipTable image) image (chipOn image) chipSpeech (Still r) (chip-speaks image i r) (8 * a) is there speaking
-        (c .control .clock) still begins
+core image a i inside r c ready s = (
+  ap (λ (w : Written). w .refusal) (spoke image a i inside r c ready s),
+  λ is there.
+      answers-due (ratedForm r) (rate-keeps r pitchBits) (chipTable image) image (chipOn image) chipSpeech (Still r) (chip-speaks image i r) (8 * a) is there
+      (speakingChip image a i inside r c ready s) (c .control .clock) (speaking-still image a i inside r c ready s)
+      (speaking-begins image a i inside r c ready s),
+)

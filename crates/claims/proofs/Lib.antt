@@ -5,5 +5,6 @@ pub mod Answers
 pub mod Instance
 pub mod Demand3
 pub mod Demand3Rated
+pub mod Shortfall
 pub mod Example
 pub mod ExampleRated

@@ -34,6 +34,12 @@ pub record Calm (r : FrameRate) (k : Control) : Type 0 where
   pub pending : k .port .pending ≡ false
   pub rate : rateOf (k .device) ≡ r
 
+pub not-external : {r : FrameRate} (k : Control) → Calm r k → k .mode ≡ External → ⊥
+not-external k h e =
+    let z : External ≡ Rom = sym e ∙ h .mode ∙ ap (λ (m : Mode). modeOf (speaks m)) e in
+    let y : _≡_ {A = ℕ} 0 1 = cc in
+    absurd (omega arith)
+
 -- the two agree, and the control stays calm
 pub record Same (r : FrameRate) (d : Moved) (e : Spoken) : Type 0 where
   pub calm : Calm r (d .control)
@@ -74,7 +80,7 @@ module _ (image : List ℕ) (r : FrameRate) (k : Control) (h : Calm r k) where
         speech = rw (e, m);
         told = refl;
       })
-  by-answer m cut = record { calm = record { mode = refl; level = h .level; pending = h .pending; rate = h .rate }; speech = refl; told = refl }
+  by-answer m (cut x) = record { calm = record { mode = refl; level = h .level; pending = h .pending; rate = h .rate }; speech = refl; told = refl }
 
   -- at a boundary, by the mode
   module _ (o : k .clock .sounding ≡ true) (b : frameBegins (k .clock) ≡ true) where
@@ -92,10 +98,7 @@ module _ (image : List ℕ) (r : FrameRate) (k : Control) (h : Calm r k) where
         subst₂ (Same r) (sym (at-boundary e)) (sym (spoken-reads form image (speechOf k) o b (ap speaks e)))
         (by-answer e (readItem form image (k .address .position)))
     boundary Waiting e = resting e refl refl
-    boundary External e =
-        let z : External ≡ Rom = sym e ∙ h .mode ∙ ap (λ (m : Mode). modeOf (speaks m)) e in
-        let y : _≡_ {A = ℕ} 0 1 = cc in
-        absurd (omega arith)
+    boundary External e = absurd (not-external k h e)
 
   by-device : Moves
   unfolding advanced

@@ -6,5 +6,6 @@ pub mod Answers
 pub mod Demand3
 pub mod Opening
 pub mod Demand3Rated
+pub mod Shortfall
 pub mod Example
 pub mod ExampleRated

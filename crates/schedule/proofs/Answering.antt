@@ -4,14 +4,15 @@ use mathlib.Core.Path.{_≡_, refl, sym, ap, ap₂, _∙_, subst, subst₂}
 use mathlib.Core.Bool.{Bool}
 use mathlib.Core.List.{List, [], _∷_}
 use Prim.Native.Nat.{ℕ, _+_, _*_}
-use native.Mathlib.Nat.{add-zero}
+use native.Mathlib.Nat.{add-zero, zero-add, add-assoc}
 use borrow.Author.Tests.{eqb-true, eqb-false}
 use lib.Dec.{eqb}
 use lib.ListN.{length}
 use Rattle.base.proofs.Booleans.{either-way, cond-true, cond-false}
 use Rattle.rates.specs.Form.{Form, KeepsSome, Item}
-use Rattle.schedule.specs.Types.{Told, Speech}
-use Rattle.schedule.specs.Calls.{Call, step, run, read, write, Answer, Device, Table, chipAfter, refusalOf, byteOf, toldBy, answerOf, answersOf, stepsIn, writeDue, refusalDue, byteDue, toldDue, answerDue, answersDue, Refused, WritesRefused, Speaks, AnswersDue}
+use Rattle.schedule.specs.Types.{Clock, Told, Speech}
+use Rattle.schedule.specs.Speech.{talkingFrom}
+use Rattle.schedule.specs.Calls.{Call, step, run, read, write, Answer, Device, Table, chipAfter, refusalOf, byteOf, toldBy, answerOf, answersOf, afterCalls, stepsIn, stepsInAll, writeDue, refusalDue, byteDue, toldDue, answerDue, answersDue, Refused, WritesRefused, Speaks, AnswersDue, StaysOnTime}
 use Rattle.schedule.proofs.Chain.{Chain, chain-there}
 use Rattle.schedule.proofs.Progress.{State, state-talks, state-position}
 use Rattle.schedule.proofs.Keeping.{after-steps, next, begin}
@@ -131,7 +132,33 @@ module _ (F : Form) (keeps : KeepsSome F) (T : Table) (image : List ℕ) (D : De
       let h = on-call x s (g .0) in
       ap₂ (λ (y : Answer) (ys : List Answer). y ∷ ys) (answer h) (on-calls xs (h .after) (g .1))
 
+  -- the chip that the last call of a list hands back
+  after-calls : (xs : List Call) {n : ℕ} {c : D .Chip} → Speaking n c → WritesRefused F T start end is n xs
+      → Speaking (n + stepsInAll T xs) (afterCalls D c xs)
+  unfolding afterCalls stepsInAll WritesRefused
+  after-calls [] s g = stays s
+  after-calls (x ∷ xs) {n} s g =
+      let h = on-call x s (g .0) in
+      rw (← add-assoc n (stepsIn T x) (stepsInAll T xs)) (after-calls xs (h .after) (g .1))
+
+  -- the chip that begins to speak
+  begins : {c : D .Chip} (t : Clock) → Still c → speech c ≡ talkingFrom start t → Speaking 0 c
+  begins t still e = record { state = subst (State F end 1 start is 0) (sym e) (begin F end start is t); still = still }
+
 pub answers-due : AnswersDue
 answers-due F keeps T image D speech Still K start is there c t still e xs =
-    on-calls F keeps T image D speech Still K start is (chain-there F image start is there) xs
-    (record { state = subst (State F (8 * length image) 1 start is 0) (sym e) (begin F (8 * length image) start is t); still = still })
+    let chain = chain-there F image start is there in
+    on-calls F keeps T image D speech Still K start is chain xs (begins F keeps T image D speech Still K start is chain t still e)
+
+pub stays-on-time : StaysOnTime
+stays-on-time F keeps T image D speech Still K start is there c t still e xs g =
+    let chain = chain-there F image start is there in
+    let s =
+    rw zero-add at (after-calls F keeps T image D speech Still K start is chain xs (begins F keeps T image D speech Still K start is chain t still e) g) in (
+      s .still,
+      record {
+        talking = state-talks F (s .state);
+        position = state-position F (s .state);
+        told = next F keeps image (speech (afterCalls D c xs)) chain (s .state) .told;
+      },
+    )

@@ -9,6 +9,7 @@ use lib.ListN.{length}
 use Rattle.base.proofs.Booleans.{by-test}
 use Rattle.rom.specs.Frames.{isStop}
 use Rattle.rom.specs.Items.{ItemAnswer, whole, cut, itemsFrom, itemsOf, There}
+use Rattle.rom.specs.declared.reader.Shortfall.{Shortfall}
 use Rattle.rom.proofs.Encoding.{begins-room}
 use Rattle.rom.proofs.ItemLaws.{there-inside}
 use Rattle.rom.proofs.Prefixed.{prefixed-law, prefixed-read}
@@ -20,7 +21,7 @@ pub data Chain (F : Form) (image : List ℕ) : ℕ → List Item → Type 0 wher
   stop : {p : ℕ} {i : Item} → readItem F image p ≡ whole i (p + width F i) → isStop (i .1) ≡ true → Chain F image p (i ∷ [])
   more : {p : ℕ} {i : Item} {is : List Item} → readItem F image p ≡ whole i (p + width F i) → isStop (i .1) ≡ false
       → Chain F image (p + width F i) is → Chain F image p (i ∷ is)
-  end : {p : ℕ} → readItem F image p ≡ cut → p ≤ 8 * length image → Chain F image p []
+  end : {p : ℕ} {h : Shortfall} → readItem F image p ≡ cut h → p ≤ 8 * length image → Chain F image p []
 
 module _ (F : Form) (image : List ℕ) where
   abbrev read : ℕ → ItemAnswer Item
@@ -52,7 +53,7 @@ module _ (F : Form) (image : List ℕ) where
     where
       go : (r : ItemAnswer Item) → read p ≡ r → Chain F image p []
       go (whole i next) e = let a = after p e in absurd (omega (arith, a .inside, a .further))
-      go cut e = end e l
+      go (cut h) e = end e l
   chain (suc n) p h l = go (chain n) (read p) refl
     where
       go : Chained n → (r : ItemAnswer Item) → read p ≡ r → Chain F image p (itemsOf (itemCode F) r (λ next. itemsFrom (itemCode F) read next n))
@@ -61,7 +62,7 @@ module _ (F : Form) (image : List ℕ) where
           let w : read p ≡ whole i (p + width F i) = subst (λ (q : ℕ). read p ≡ whole i q) (a .is) e in
           by-test (λ is. Chain F image p (i ∷ is)) (isStop (i .1)) (λ t. stop w t)
           (λ t. more w t (subst (λ (q : ℕ). Chain F image q (itemsFrom (itemCode F) read next n)) (a .is) (ih next (omega (arith, a .further)) (a .inside))))
-      go ih cut e = end e l
+      go ih (cut h) e = end e l
 
   -- the items there are read one after another
   pub chain-there : (start : ℕ) (is : List Item) → There (itemCode F) image start is → Chain F image start is

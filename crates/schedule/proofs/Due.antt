@@ -1,22 +1,24 @@
 -- What is due, one item at a time: before the first of the items, from its step on, and where there is none; the steps of the
 -- schedule, numbered as 01 says; and its end.
 -- Assumes nothing.
-use mathlib.Core.Path.{_≡_, refl, ap, _∙_}
+use mathlib.Core.Path.{_≡_, refl, sym, ap, _∙_}
 use mathlib.Core.Bool.{true, false, and-false}
 use mathlib.Core.List.{List, [], _∷_, _++_, append-nil}
 use Prim.Native.Nat.{ℕ, _+_, _≤_, _<_}
 use native.Mathlib.Nat.{add-assoc, add-zero}
 use native.Mathlib.Omega.{arith}
-use borrow.Author.Tests.{eq-eqb, ne-eqb, le-leb, lt-leb, lt-ltb, le-ltb}
+use borrow.Author.Tests.{eq-eqb, ne-eqb, eqb-true, eqb-false, leb-true, leb-false, le-leb, lt-leb, lt-ltb, le-ltb}
+use lib.Dec.{eqb, leb}
 use lib.ListN.{length, length-append}
-use Rattle.base.proofs.Booleans.{by-test, neither}
+use Rattle.base.proofs.Booleans.{either-way, by-test, neither}
 use Rattle.rom.specs.Frames.{isStop}
 use Rattle.rom.specs.Items.{bitsAll, hasStop, Ended, last, more}
 use Rattle.rom.proofs.ItemLaws.{has-stop}
+use Rattle.reports.proofs.RanOut.{nothing-not-out, frame-not-out}
 use Rattle.rates.specs.Form.{Form, Item, itemCode, KeepsSome}
 use Rattle.schedule.specs.Form.{lasting}
-use Rattle.schedule.specs.Types.{NoReport, RanOut, tellsRated, tells}
-use Rattle.schedule.specs.Schedule.{dueReport, dueFrom, endFrom, toldFrom, talksFrom, positionFrom, totalSamples, totalBits, Numbered, JustAfter}
+use Rattle.schedule.specs.Types.{NoReport, RanOut, Told, tellsRated, tells}
+use Rattle.schedule.specs.Schedule.{dueReport, dueFrom, endFrom, toldFrom, talksFrom, positionFrom, totalSamples, totalBits, Numbered, JustAfter, OutBehind}
 
 -- the bits of an item
 abbrev pub width : Form → Item → ℕ
@@ -153,6 +155,33 @@ module _ (F : Form) where
   past-all : {is : List Item} → Ended (itemCode F) is → (at start end n : ℕ) → endFrom F at is ≤ n
       → positionFrom F at start end is n ≡ start + totalBits F is
   past-all d at start end n h = rw (has-stop d, all-due d at n h)
+
+  -- where running out is due, past items that are no stops
+  out-behind-from : (at start end : ℕ) (is : List Item) (n : ℕ) → toldFrom F at is (n + 1) .report ≡ RanOut
+      → (hasStop (itemCode F) is ≡ false) × (positionFrom F at start end is n ≡ start + totalBits F is)
+  unfolding toldFrom
+  out-behind-from at start end [] n e =
+      either-way (eqb (n + 1) at)
+      (λ t. (refl, position-ahead F at n [] (omega (arith, eqb-true (n + 1) at t)) start end ∙ sym (add-zero start)))
+      (λ t. absurd (nothing-not-out (rw t at e)))
+  out-behind-from at start end (i ∷ is) n e =
+      either-way (leb at n)
+      (λ l.
+      let h = leb-true at n l in
+      let t = ne-eqb (n + 1) at (omega arith) in
+      either-way (isStop (i .1)) (λ k. absurd (nothing-not-out (rw (t, k) at e)))
+      (λ k.
+      let r = out-behind-from (at + lasting F i) (start + width F i) end is n (rw (t, k) at e) in
+      let bits : start + width F i + totalBits F is ≡ start + totalBits F (i ∷ is) =
+      rw (length-append (itemCode F .bits i) (bitsAll (itemCode F) is), add-assoc) in
+      (rw (k, r .0), position-more F at n i is k start end h ∙ r .1 ∙ bits)))
+      (λ l. either-way (eqb (n + 1) at) (λ t. absurd (frame-not-out (i .1) (rw t at e)))
+      (λ t.
+      let h : n + 1 < at = omega (arith, leb-false at n l, eqb-false (n + 1) at t) in
+      absurd (nothing-not-out (sym (ap (λ (x : Told). x .report) (told-ahead F at (n + 1) (i ∷ is) h)) ∙ e))))
+
+pub out-behind : OutBehind
+out-behind F start end is n e = out-behind-from F 1 start end is n e
 
 pub numbered : Numbered
 unfolding endFrom

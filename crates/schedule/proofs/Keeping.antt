@@ -13,6 +13,7 @@ use Rattle.base.specs.Steps.{stateAfter}
 use Rattle.base.specs.Units.{intervals, samplesPerInterval}
 use Rattle.rom.specs.Frames.{isStop}
 use Rattle.rom.specs.Items.{ItemAnswer, whole, cut}
+use Rattle.rom.specs.declared.reader.Shortfall.{Shortfall}
 use Rattle.rates.specs.Form.{Form, readItem, KeepsSome, Item}
 use Rattle.schedule.specs.Form.{lasting}
 use Rattle.schedule.specs.Types.{Speech, Clock, Spoken}
@@ -120,7 +121,7 @@ module _ (F : Form) (keeps : KeepsSome F) where
               state = past k (omega arith) (ahead {l = b .left} (omega (arith, b .lasting-is)) (rw k) refl (b .counts));
             })
 
-        runs-out : readItem F image p ≡ cut → p ≤ 8 * length image → Steps at p n []
+        runs-out : {h : Shortfall} → readItem F image p ≡ cut h → p ≤ 8 * length image → Steps at p n []
         runs-out w l =
             let at-end : max (s .position) (8 * length image) ≡ 8 * length image = omega arith in
             subst (Next at p n []) (sym (reads m q t w))

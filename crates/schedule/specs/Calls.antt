@@ -11,7 +11,7 @@ use Rattle.rom.specs.Items.{There}
 use Rattle.rates.specs.Form.{Form, KeepsSome, Item, itemCode}
 use Rattle.schedule.specs.Types.{Clock, NoReport, Told, tells, Speech}
 use Rattle.schedule.specs.Schedule.{toldAt, talksAfter, positionAfter}
-use Rattle.schedule.specs.Speech.{talkingFrom, spoken}
+use Rattle.schedule.specs.Speech.{talkingFrom, spoken, OnTime}
 
 -- a call of the list
 pub data Call : Type 0 where
@@ -85,6 +85,11 @@ module _ (D : Device) where
   answersOf c [] = []
   answersOf c (x ∷ xs) = answerOf c x ∷ answersOf (chipAfter c x) xs
 
+  -- the chip that the last of them hands back
+  unfoldable pub afterCalls : D .Chip → List Call → D .Chip
+  afterCalls c [] = c
+  afterCalls c (x ∷ xs) = afterCalls (chipAfter c x) xs
+
 -- ---- the answers that are due
 
 -- a device's numbers
@@ -102,6 +107,11 @@ stepsIn T (step voice) = cond (eqb (T .fault voice) TAKEN) 1 0
 stepsIn T (run voice n) = cond (eqb (T .fault voice) TAKEN) n 0
 stepsIn T read = 0
 stepsIn T (write b) = 0
+
+-- the steps that a list of calls takes
+unfoldable pub stepsInAll : Table → List Call → ℕ
+stepsInAll T [] = 0
+stepsInAll T (x ∷ xs) = stepsIn T x + stepsInAll T xs
 
 -- the items stand from bit `start` on in an image that ends at bit `end`
 module _ (F : Form) (T : Table) (start end : ℕ) (is : List Item) where
@@ -155,7 +165,7 @@ module _ (F : Form) (T : Table) (start end : ℕ) (is : List Item) where
   WritesRefused n [] = Unit {0}
   WritesRefused n (x ∷ xs) = Refused n x × WritesRefused (n + stepsIn T x) xs
 
--- ---- the theorem
+-- ---- the theorems
 
 -- What a device is to show, of the chips for which Still holds: to its calls, what `speech` reads off a chip is speech from ROM.
 pub record Speaks (F : Form) (T : Table) (image : List ℕ) (D : Device) (speech : D .Chip → Speech) (Still : D .Chip → Type 0) : Type 0 where
@@ -192,3 +202,13 @@ AnswersDue =
     → (c : D .Chip) (t : Clock) → Still c → speech c ≡ talkingFrom start t
     → (xs : List Call) → WritesRefused F T start (8 * length image) is 0 xs
     → answersOf D c xs ≡ answersDue F T start (8 * length image) is 0 xs
+
+-- And it keeps the schedule meanwhile: after the list it talks, stands and gives at the next step what is due.
+abbrev pub StaysOnTime : Type 1
+StaysOnTime =
+    (F : Form) → KeepsSome F → (T : Table) (image : List ℕ) (D : Device) (speech : D .Chip → Speech) (Still : D .Chip → Type 0)
+    → Speaks F T image D speech Still
+    → (start : ℕ) (is : List Item) → There (itemCode F) image start is
+    → (c : D .Chip) (t : Clock) → Still c → speech c ≡ talkingFrom start t
+    → (xs : List Call) → WritesRefused F T start (8 * length image) is 0 xs
+    → Still (afterCalls D c xs) × OnTime F image start is (stepsInAll T xs) (speech (afterCalls D c xs))

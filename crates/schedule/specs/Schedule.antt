@@ -95,3 +95,9 @@ abbrev pub JustAfter : Type 0
 JustAfter =
     (F : Form) (start end : ℕ) (is : List Item) → Ended (itemCode F) is → (n : ℕ) → endStep F is ≤ n
     → positionAfter F start end is n ≡ start + totalBits F is
+
+-- Where running out is due at the step after n others, none of the items is a stop, and before that step the position is past them all.
+abbrev pub OutBehind : Type 0
+OutBehind =
+    (F : Form) (start end : ℕ) (is : List Item) (n : ℕ) → toldAt F is (n + 1) .report ≡ RanOut
+    → (hasStop (itemCode F) is ≡ false) × (positionAfter F start end is n ≡ start + totalBits F is)

@@ -54,7 +54,7 @@ runsOut image s = record {
 -- a boundary while it talks, by what is read at the position
 abbrev pub byAnswer : Form → List ℕ → Speech → ItemAnswer Item → Spoken
 byAnswer F image s (whole i next) = took F s i next
-byAnswer F image s cut = runsOut image s
+byAnswer F image s (cut h) = runsOut image s
 
 -- a sample step
 unfoldable pub spoken : Form → List ℕ → Speech → Spoken
