@@ -243,11 +243,12 @@ static void use_up(struct chip *c, unsigned bits)
 }
 
 /* The next frame from the ROM or the FIFO; false where it runs out. */
-static bool take_frame(struct chip *c, struct bytes image, struct frame *f)
+static bool take_frame(struct chip *c, struct bytes image, struct step *answer)
 {
+    struct frame *f = &answer->frame;
     size_t next;
     if (c->mode == ROM) {
-        if (!frame_at(image, c->position, c->rate, f, &next)) {
+        if (!frame_at(image, c->position, c->rate, f, &next, &answer->cut)) {
             if (c->position < 8 * image.length)
                 c->position = 8 * image.length;
             change(c, IDLE, 0);
@@ -256,7 +257,9 @@ static bool take_frame(struct chip *c, struct bytes image, struct frame *f)
         c->position = next;
     } else {
         struct bytes held = {c->fifo, c->level};
-        if (!frame_at(held, c->used, c->rate, f, &next) || (f->kind != STOP && next == 8 * held.length)) {
+        if (!frame_at(held, c->used, c->rate, f, &next, &answer->cut) || (f->kind != STOP && next == 8 * held.length)) {
+            answer->used_up = 8 * c->level - c->used;
+            answer->cut.begun = 0;
             change(c, IDLE, 0);
             empty(c);
             return false;
@@ -278,7 +281,7 @@ static bool boundary(struct chip *c, struct bytes image, struct bytes voice, str
         rest(c);
         return false;
     }
-    if (!take_frame(c, image, &answer->frame)) {
+    if (!take_frame(c, image, answer)) {
         rest(c);
         answer->report = RAN_OUT;
         return false;
@@ -293,6 +296,8 @@ static void take_step(struct chip *c, struct bytes image, struct bytes voice, st
 {
     answer->sample = 0;
     answer->report = NOTHING;
+    answer->used_up = 0;
+    answer->cut = (struct shortfall){0};
     if (!c->sounding)
         return;
     if (c->sample == 0) {

@@ -28,15 +28,21 @@ struct frame {
     unsigned rate, energy, pitch, k[10];
 };
 
+/* where a cut frame begins, with its rate bits, and how many bits it lacks */
+struct shortfall {
+    size_t begun, missing;
+};
+
 struct walk {
     size_t bits;
     uint32_t frames;
     uint64_t intervals, samples;
+    struct shortfall cut;
 };
 
 bool image_valid(struct bytes image);
 unsigned field(struct bytes s, size_t bit, unsigned width);
-bool frame_at(struct bytes s, size_t bit, struct rate rate, struct frame *frame, size_t *next);
+bool frame_at(struct bytes s, size_t bit, struct rate rate, struct frame *frame, size_t *next, struct shortfall *cut);
 int walk(struct bytes image, size_t address, struct walk *answer);
 
 bool rate_valid(struct rate rate);
@@ -83,6 +89,9 @@ struct step {
     int16_t sample;
     enum report report;
     struct frame frame;
+    /* ran out: the bits of the FIFO that are used up, and how short the bits are; no place in the FIFO */
+    size_t used_up;
+    struct shortfall cut;
 };
 
 void power_up(struct chip *c);

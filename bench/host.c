@@ -8,7 +8,7 @@ const struct version proved = {tms_walk, tms_walk_5220c, tms_voice_check, tms_sp
                                tms_speak_external};
 
 uint8_t c_walk(const uint8_t *image, size_t image_length, size_t address, size_t *bits, uint32_t *frames,
-               uint64_t *intervals, uint64_t *samples)
+               uint64_t *intervals, uint64_t *samples, size_t *begun, size_t *missing)
 {
     struct walk answer;
     int refusal = walk((struct bytes){image, image_length}, address, &answer);
@@ -16,11 +16,13 @@ uint8_t c_walk(const uint8_t *image, size_t image_length, size_t address, size_t
     *frames = answer.frames;
     *intervals = answer.intervals;
     *samples = answer.samples;
+    *begun = answer.cut.begun;
+    *missing = answer.cut.missing;
     return refusal;
 }
 
 uint8_t c_walk_5220c(const uint8_t *image, size_t image_length, size_t address, uint8_t v, uint8_t rr, size_t *bits,
-                     uint32_t *frames, uint64_t *intervals, uint64_t *samples)
+                     uint32_t *frames, uint64_t *intervals, uint64_t *samples, size_t *begun, size_t *missing)
 {
     struct walk answer;
     int refusal = walk_rated((struct bytes){image, image_length}, address, (struct rate){v, rr}, &answer);
@@ -28,6 +30,8 @@ uint8_t c_walk_5220c(const uint8_t *image, size_t image_length, size_t address, 
     *frames = answer.frames;
     *intervals = answer.intervals;
     *samples = answer.samples;
+    *begun = answer.cut.begun;
+    *missing = answer.cut.missing;
     return refusal;
 }
 

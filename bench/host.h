@@ -2,9 +2,10 @@
 #include "../crates/export/tms.h"
 
 typedef uint8_t walk_call(const uint8_t *image, size_t image_length, size_t address, size_t *bits, uint32_t *frames,
-                          uint64_t *intervals, uint64_t *samples);
+                          uint64_t *intervals, uint64_t *samples, size_t *begun, size_t *missing);
 typedef uint8_t rated_walk_call(const uint8_t *image, size_t image_length, size_t address, uint8_t v, uint8_t rr,
-                                size_t *bits, uint32_t *frames, uint64_t *intervals, uint64_t *samples);
+                                size_t *bits, uint32_t *frames, uint64_t *intervals, uint64_t *samples, size_t *begun,
+                                size_t *missing);
 typedef uint8_t check_call(const uint8_t *voice, size_t voice_length);
 typedef uint8_t speak_call(const uint8_t *image, size_t image_length, const uint8_t *voice, size_t voice_length,
                            size_t address, int16_t *out, size_t out_length);

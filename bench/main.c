@@ -78,7 +78,7 @@ enum { MOST = 4000 };
 
 struct answer {
     uint8_t refusal[7];
-    uint64_t walked[2][4];
+    uint64_t walked[2][6];
     int16_t out[4][MOST];
 };
 
@@ -155,15 +155,17 @@ static void make_input(struct input *in)
 
 static void walks_by(const struct version *v, const struct input *in, struct answer *a)
 {
-    size_t bits[2];
+    size_t bits[2], begun[2], missing[2];
     uint32_t frames[2];
     a->refusal[0] = v->walk(in->image, in->image_length, in->address, &bits[0], &frames[0], &a->walked[0][0],
-                            &a->walked[0][1]);
+                            &a->walked[0][1], &begun[0], &missing[0]);
     a->refusal[5] = v->walk_5220c(in->image, in->image_length, in->address, in->v, in->rr, &bits[1], &frames[1],
-                                  &a->walked[1][0], &a->walked[1][1]);
+                                  &a->walked[1][0], &a->walked[1][1], &begun[1], &missing[1]);
     for (int i = 0; i < 2; i++) {
         a->walked[i][2] = bits[i];
         a->walked[i][3] = frames[i];
+        a->walked[i][4] = begun[i];
+        a->walked[i][5] = missing[i];
     }
 }
 

@@ -45,13 +45,24 @@ static unsigned rate_bits(struct bytes s, size_t *bit, struct rate rate)
     return field(s, *bit - 2, 2);
 }
 
-bool frame_at(struct bytes s, size_t bit, struct rate rate, struct frame *f, size_t *next)
+/* How short the bits are of a frame from a bit up to `next`, which with its rate bits begins at bit `begun`. */
+static struct shortfall shortfall(struct bytes s, size_t begun, size_t bit, size_t next)
+{
+    size_t end = 8 * s.length > begun ? 8 * s.length : begun;
+    size_t wanted = end < bit + 4 ? bit + 4 : end < bit + 11 ? bit + 11 : next;
+    return (struct shortfall){begun, wanted - end};
+}
+
+bool frame_at(struct bytes s, size_t bit, struct rate rate, struct frame *f, size_t *next, struct shortfall *cut)
 {
     static const unsigned width[10] = {5, 5, 4, 4, 4, 4, 4, 3, 3, 3};
+    size_t begun = bit;
     f->rate = rate_bits(s, &bit, rate);
     *next = bit + head(s, bit, f);
-    if (*next > 8 * s.length)
+    if (*next > 8 * s.length) {
+        *cut = shortfall(s, begun, bit, *next);
         return false;
+    }
     int count = f->kind == VOICED ? 10 : f->kind == UNVOICED ? 4 : 0;
     bit += 11;
     for (int i = 0; i < count; i++) {
@@ -59,6 +70,13 @@ bool frame_at(struct bytes s, size_t bit, struct rate rate, struct frame *f, siz
         bit += width[i];
     }
     return true;
+}
+
+/* A walk that comes to a cut frame. */
+static int cut(struct bytes image, size_t begun, size_t bit, size_t next, struct walk *answer)
+{
+    answer->cut = shortfall(image, begun, bit, next);
+    return NO_PHRASE;
 }
 
 int walk(struct bytes image, size_t address, struct walk *answer)
@@ -72,12 +90,13 @@ int walk(struct bytes image, size_t address, struct walk *answer)
     uint32_t frames = 0;
     struct frame f;
     do {
-        bit += head(image, bit, &f);
-        if (bit > 8 * image.length)
-            return NO_PHRASE;
+        size_t next = bit + head(image, bit, &f);
+        if (next > 8 * image.length)
+            return cut(image, bit, bit, next, answer);
+        bit = next;
         frames++;
     } while (f.kind != STOP);
-    *answer = (struct walk){bit - 8 * address, frames, 8ull * frames, 200ull * frames};
+    *answer = (struct walk){bit - 8 * address, frames, 8ull * frames, 200ull * frames, {0}};
     return TAKEN;
 }
 
@@ -114,13 +133,15 @@ int walk_rated(struct bytes image, size_t address, struct rate rate, struct walk
     uint64_t intervals = 0;
     struct frame f;
     do {
+        size_t begun = bit;
         unsigned bits = rate_bits(image, &bit, rate);
-        bit += head(image, bit, &f);
-        if (bit > 8 * image.length)
-            return NO_PHRASE;
+        size_t next = bit + head(image, bit, &f);
+        if (next > 8 * image.length)
+            return cut(image, begun, bit, next, answer);
+        bit = next;
         frames++;
         intervals += 8 - first_interval(rate, bits);
     } while (f.kind != STOP);
-    *answer = (struct walk){bit - 8 * address, frames, intervals, 25 * intervals};
+    *answer = (struct walk){bit - 8 * address, frames, intervals, 25 * intervals, {0}};
     return TAKEN;
 }

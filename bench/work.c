@@ -126,31 +126,35 @@ static void prepare_any_rate(void)
     make_image(&image, IMAGE_LIMIT, speech_any_rate, 0);
 }
 
-static inline void note_walk(uint8_t refusal, size_t bits, uint32_t frames, uint64_t intervals, uint64_t samples)
+static inline void note_walk(uint8_t refusal, size_t bits, uint32_t frames, uint64_t intervals, uint64_t samples, size_t begun,
+                             size_t missing)
 {
     note(refusal);
     note(bits);
     note(frames);
     note(intervals);
     note(samples);
+    note(begun);
+    note(missing);
 }
 
 static void walk_from(const struct version *v, size_t address)
 {
-    size_t bits;
+    size_t bits, begun, missing;
     uint32_t frames;
     uint64_t intervals, samples;
-    uint8_t refusal = v->walk(image.bytes, image.length, address, &bits, &frames, &intervals, &samples);
-    note_walk(refusal, bits, frames, intervals, samples);
+    uint8_t refusal = v->walk(image.bytes, image.length, address, &bits, &frames, &intervals, &samples, &begun, &missing);
+    note_walk(refusal, bits, frames, intervals, samples, begun, missing);
 }
 
 static void walk_rate_bits_from(const struct version *v, size_t address)
 {
-    size_t bits;
+    size_t bits, begun, missing;
     uint32_t frames;
     uint64_t intervals, samples;
-    uint8_t refusal = v->walk_5220c(image.bytes, image.length, address, 1, 0, &bits, &frames, &intervals, &samples);
-    note_walk(refusal, bits, frames, intervals, samples);
+    uint8_t refusal = v->walk_5220c(image.bytes, image.length, address, 1, 0, &bits, &frames, &intervals, &samples, &begun,
+                                    &missing);
+    note_walk(refusal, bits, frames, intervals, samples, begun, missing);
 }
 
 typedef void from_call(const struct version *v, size_t address);

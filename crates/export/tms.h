@@ -6,14 +6,15 @@
 #include <stddef.h>
 #include <stdint.h>
 
-/* The walk from a byte address: the phrase's bits, its frames, and its duration; zeros where no phrase begins. */
+/* The walk from a byte address: the phrase's bits, its frames, and its duration; zeros where no phrase begins. Where the image ends
+   before a stop, 10, begun is the bit of the image at which the cut frame begins and missing how many bits it lacks; else both are 0. */
 uint8_t tms_walk(const uint8_t *image, size_t image_length, size_t address, size_t *bits, uint32_t *frames, uint64_t *intervals,
-                 uint64_t *samples);
+                 uint64_t *samples, size_t *begun, size_t *missing);
 
 /* The same for a TMS5220C whose Load Frame Rate has set v (0 or 1) and rr (0 to 3); 4 for any other. With v = 1 every frame begins
    with two rate bits, and each lasts by its own rate. */
 uint8_t tms_walk_5220c(const uint8_t *image, size_t image_length, size_t address, uint8_t v, uint8_t rr, size_t *bits,
-                       uint32_t *frames, uint64_t *intervals, uint64_t *samples);
+                       uint32_t *frames, uint64_t *intervals, uint64_t *samples, size_t *begun, size_t *missing);
 
 /* The check of a voice file. */
 uint8_t tms_voice_check(const uint8_t *voice, size_t voice_length);
