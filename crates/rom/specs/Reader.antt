@@ -81,7 +81,7 @@ countedTo P at next end = cond (ltb end (at + 4)) (at + 4) (cond (ltb end (at + 
 abbrev pub cutAt : ℕ → ℕ → ℕ → ℕ → ℕ → Shortfall
 cutAt P begun at next end = let there = max begun end in record { begun = begun; missing = countedTo P at next there - there }
 
--- how short the image s is of the frame at bit `at`
+-- how short the image s is of the frame at bit `at`, which with its prefix begins at bit `begun`
 unfoldable pub shortOf : ℕ → List ℕ → ℕ → ℕ → Shortfall
 shortOf P s begun at = cutAt P begun at (at + bitCount P (decoded P s at)) (8 * length s)
 
