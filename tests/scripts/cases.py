@@ -42,14 +42,9 @@ def voice_faults():
     return out + voice(voices.plain(3)[:-3] + b'\x80\x7f\xff')
 
 
-# The random themes, in small.
+# The random themes, each once, but for the last, whose runs are long.
 def some_of_each_theme():
-    out = b''
-    for at, theme in enumerate(themes.OF_01):
-        if theme is not themes.long_runs:
-            pick = Pick(5220 + at)
-            out += b''.join(theme(pick) for _ in range(3))
-    return out
+    return b''.join(theme(Pick(5220 + at)) for at, theme in enumerate(themes.OF_01[:-1]))
 
 
 # One run of the longest kind: a phrase, its end, silence.

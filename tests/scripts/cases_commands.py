@@ -3,7 +3,7 @@ import voices
 from chips import KINDS, KS, OTHER_KS, external, fifo, in_mode, silent
 from images import SILENCE, STOP, pack, repeat, unvoiced, voiced
 from script import *
-from states import FIFO, IDLE, ROM, WAITING, held
+from states import FIFO, IDLE, ROM, TMS5220C, WAITING, held
 
 
 # Each code in each mode, with both top bits. In ROM speech all but the last, Reset, have to wait; in the external modes all go
@@ -20,12 +20,14 @@ def every_command():
     return out + in_mode(IDLE, pending=1, data=9) + write(SPEAK_EXTERNAL) + step() + write(RESET) + read()
 
 
-# The status at each FIFO level: from waiting up to external speech with 16 bytes, and set; the interrupt before it.
+# The status at each FIFO level: from waiting up to external speech with 16 bytes, and down again by two silences a byte, of 50
+# samples each, which only a TMS5220C has; at some levels set, with the interrupt before it.
 def statuses():
-    out = image(b'\x00') + silent(mode=WAITING, interrupt=1) + read()
+    out = image(b'\x00') + voice(voices.soft(2)) + silent(mode=WAITING, interrupt=1) + read()
     for byte in range(1, 17):
         out += write(byte) + read()
-    for level in range(1, 17):
+    out += fifo(bytes(16), 4, device=TMS5220C, rr=3) + (step() + read() + run(99)) * 16
+    for level in (1, 8, 9, 16):
         out += external(level, interrupt=level & 1) + read()
     out += silent(mode=WAITING, interrupt=1, **held(8)) + read()
     for mode in (IDLE, ROM):

@@ -135,14 +135,9 @@ def longest_holding_run():
     return out
 
 
-# The random themes, in small.
+# The random themes, each once, but for the last, whose runs are long.
 def some_of_each_hold_theme():
-    out = b''
-    for at, theme in enumerate(themes.OF_HOLDS):
-        if theme is not themes.long_changing_runs:
-            pick = Pick(30230 + at)
-            out += b''.join(theme(pick) for _ in range(2))
-    return out
+    return b''.join(theme(Pick(30230 + at)) for at, theme in enumerate(themes.OF_HOLDS[:-1]))
 
 
 HOLD_TOPICS = [holding_pairs, holding_intervals, holding_mixed_rates, holding_by_targets, holding_states, hold_ranges,

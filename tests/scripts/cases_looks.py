@@ -112,13 +112,9 @@ def looks_at_interrupts():
     return out + look() + both() + step() + look()
 
 
-# The random themes, in small.
+# The random themes, each once.
 def some_of_each_look_theme():
-    out = b''
-    for at, theme in enumerate(themes.OF_LOOKS):
-        pick = Pick(60220 + at)
-        out += b''.join(theme(pick) for _ in range(2))
-    return out
+    return b''.join(theme(Pick(60220 + at)) for at, theme in enumerate(themes.OF_LOOKS))
 
 
 LOOK_TOPICS = [looks_at_modes, looks_at_broken_states, looks_without_image, looks_around_reads, looks_in_rom_speech,

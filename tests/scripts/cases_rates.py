@@ -276,14 +276,9 @@ def longest_rated_run():
     return out + rated_walk(1, 0, 0) + write(SPEAK) + run(LONGEST_RUN)
 
 
-# The random themes of the TMS5220C, in small.
+# The random themes of the TMS5220C, each once, but for the last, whose runs are long.
 def some_of_each_rate_theme():
-    out = b''
-    for at, theme in enumerate(themes.OF_RATES):
-        if theme is not themes.long_rated_runs:
-            pick = Pick(52200 + at)
-            out += b''.join(theme(pick) for _ in range(3))
-    return out
+    return b''.join(theme(Pick(52200 + at)) for at, theme in enumerate(themes.OF_RATES[:-1]))
 
 
 RATE_TOPICS = [rates_refused_by_image, rate_bytes, rate_and_the_rest, rate_in_rom_speech, rate_in_external_speech,

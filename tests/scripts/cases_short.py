@@ -168,13 +168,9 @@ def short_refusals():
     return out + rated_walk(2, 0, 4) + rated_walk(0, 4, 4)
 
 
-# The random themes, in small.
+# The random themes, each once.
 def some_of_each_short_theme():
-    out = b''
-    for at, theme in enumerate(themes.OF_CUTS):
-        pick = Pick(40220 + at)
-        out += b''.join(theme(pick) for _ in range(2))
-    return out
+    return b''.join(theme(Pick(40220 + at)) for at, theme in enumerate(themes.OF_CUTS))
 
 
 SHORT_TOPICS = [cut_example, cut_phrases, cut_rated_phrases, cut_pitches, cut_rom_speech, short_images, cut_external_speech,

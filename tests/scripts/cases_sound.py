@@ -45,7 +45,7 @@ def boundaries():
     out = image(b'\x00') + voice(voices.soft())
     for mode in (IDLE, WAITING):
         for sample, interval in ((0, 0), (24, 7), (0, 1), (24, 0), (1, 0)):
-            out += in_mode(mode, sample=sample, interval=interval, interrupt=sample & 1) + step(2) + run(2)
+            out += in_mode(mode, sample=sample, interval=interval, interrupt=sample & 1) + run(0) + step(2) + run(2)
     # not sounding, nothing changes
     return out + silent(mode=WAITING, **held(3)) + step() + run(3) + read()
 
