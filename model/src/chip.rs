@@ -29,6 +29,8 @@ pub const ZERO_VALUES: Values = Values { energy: 0, pitch: 0, k: [0; 11] };
 /// frame rate; its v and rr are 0 (D 73).
 /// 3: "The chip must remember for the frame whether it holds": `hold`, which
 /// is part of the sound (D 105).
+/// 9: "The order is part of the chip": `order`, which belongs to the FIFO
+/// (D 109). No call but the power-ups sets it.
 #[derive(Clone, Copy, PartialEq, Debug)]
 pub struct Chip {
     pub mode: i64,
@@ -52,13 +54,16 @@ pub struct Chip {
     pub v: i64,
     pub rr: i64,
     pub hold: i64,
+    pub order: i64,
 }
 
 /// 01: "Reset gives the power-up state: idle, silent, empty FIFO, position 0,
 /// no data byte, no interrupt." The nibble is the lowest: "Reset also
 /// restart[s] it". Silent is the sound at rest (D 51).
 /// 5: "Power-up and Reset mean v = 0, rr = 00."
-pub fn power_up_of(device: i64) -> Chip {
+/// 9: "A second power-up takes a bit order for the FIFO". Each device has one
+/// (D 109).
+pub fn power_up_with(device: i64, order: i64) -> Chip {
     let chip = Chip {
         mode: IDLE,
         position: 0,
@@ -81,8 +86,16 @@ pub fn power_up_of(device: i64) -> Chip {
         v: 0,
         rr: 0,
         hold: 0,
+        order,
     };
     put_to_rest(chip)
+}
+
+/// The plain power-up of each device.
+/// 9: "the plain one now means least significant first". The TMS5220C's too
+/// (D 109).
+pub fn power_up_of(device: i64) -> Chip {
+    power_up_with(device, LEAST_FIRST)
 }
 
 /// The device of document 01.
@@ -171,10 +184,10 @@ fn state_holds(chip: &Chip) -> bool {
 }
 
 /// No range of 01, only what the trace format promises of each state:
-/// "mode 0..3; pending, interrupt, sounding, device, hold [..] 0 or 1; 8 bits
+/// "mode 0..3; pending, interrupt, sounding, device, hold, order 0 or 1; 8 bits
 /// for [..] data byte, FIFO bytes". Within the promise this is always true: the
 /// interrupt has no range (D 52), nor has the mode one (D 15), nor, while
-/// sounding, `hold` (D 105).
+/// sounding, `hold` (D 105), nor the order (D 84).
 fn fields_fit(chip: &Chip) -> bool {
     (0..=3).contains(&chip.mode)
         && (0..=1).contains(&chip.pending)
@@ -182,6 +195,7 @@ fn fields_fit(chip: &Chip) -> bool {
         && (0..=1).contains(&chip.sounding)
         && (TMS5220..=TMS5220C).contains(&chip.device)
         && (0..=1).contains(&chip.hold)
+        && (LEAST_FIRST..=MOST_FIRST).contains(&chip.order)
         && (0..=255).contains(&chip.data)
         && chip.fifo.iter().all(|byte| (0..=255).contains(byte))
 }
@@ -285,10 +299,21 @@ fn data_mode_holds(chip: &Chip) -> bool {
 
 // ---------------------------------------------------------------- FIFO
 
-/// 01: "FIFO bits leave in order, most significant first". (D 1)
+/// 01: "FIFO bits leave in order". The bytes as they were written, the oldest
+/// first; the order of bits is that inside each of them (D 83).
 fn fifo_bit(chip: &Chip, at: i64) -> i64 {
     let byte = usize::try_from(floor(at, BYTE)).ok().and_then(|place| chip.fifo.get(place));
-    bit_of_byte(byte.copied().unwrap_or(0), at.rem_euclid(BYTE))
+    spoken_bit(chip.order, byte.copied().unwrap_or(0), at.rem_euclid(BYTE))
+}
+
+/// The bit of a byte that leaves after so many others of it.
+/// 01: "most significant first" (D 1). 9: "bytes whose least significant bit
+/// is spoken first", "amending document 01's order".
+fn spoken_bit(order: i64, byte: i64, out: i64) -> i64 {
+    if order == MOST_FIRST {
+        return bit_of_byte(byte, out);
+    }
+    bit_of_byte(byte, BYTE - 1 - out)
 }
 
 /// The place after the last bit of the held bytes, counted from the first bit
@@ -325,7 +350,7 @@ pub fn take_fifo_bits(chip: Chip, width: i64) -> Chip {
     Chip { fifo, level: chip.level - gone, used: used.rem_euclid(BYTE), ..chip }
 }
 
-/// 01: "discards held FIFO bytes", "they are used up".
+/// 01: "discards held FIFO bytes", "they are used up". The order stays (D 109).
 pub fn empty_fifo(chip: Chip) -> Chip {
     Chip { level: 0, used: 0, fifo: [0; 16], ..chip }
 }
@@ -454,7 +479,8 @@ fn written(image: &[u8], given: Chip, byte: i64) -> Chip {
         SPEAK => speak(chip),
         SPEAK_EXTERNAL => speak_external(chip),
         // 01: "Reset gives the power-up state". (D 28, D 29) The device stays.
-        RESET => power_up_of(chip.device),
+        // 9: "The order is part of the chip and survives Reset."
+        RESET => power_up_with(chip.device, chip.order),
         // 5: "This device obeys it in idle." In the other modes the byte is
         // refused, or goes to the FIFO, as each command is.
         LOAD_FRAME_RATE | ALSO_LOAD_FRAME_RATE if chip.device == TMS5220C => load_frame_rate(chip, byte),

@@ -1,8 +1,9 @@
 //! Refusal numbers and device numbers. Every number is an i64.
 //!
-//! In all files: `01:` stands before words of document 01, `3:`, `4:`, `5:` and
-//! `6:` before words of document 02's §3, §4, §5 and §6, `D n` is a number of
-//! the list of decisions, `trace:` stands before words of the trace format.
+//! In all files: `01:` stands before words of document 01, `3:`, `4:`, `5:`,
+//! `6:` and `9:` before words of document 02's §3, §4, §5, §6 and §9, `D n` is a
+//! number of the list of decisions, `trace:` stands before words of the trace
+//! format.
 
 // 01: "Refusal numbers", column "No." and column "Name".
 pub const TAKEN: i64 = 0;
@@ -37,6 +38,11 @@ pub const RAN_OUT: i64 = 3;
 // trace: "device: 0 TMS5220, 1 TMS5220C".
 pub const TMS5220: i64 = 0;
 pub const TMS5220C: i64 = 1;
+
+// 9: "a bit order for the FIFO". There are two (D 84).
+// trace: "Order 0 is least significant bit first, 1 most significant first."
+pub const LEAST_FIRST: i64 = 0;
+pub const MOST_FIRST: i64 = 1;
 
 // 01: "25 samples make an interval, 8 intervals a frame".
 pub const SAMPLES_PER_INTERVAL: i64 = 25;

@@ -1,6 +1,7 @@
 //! Tests: document 01's "Numbers to try", sizes at their bounds, each refusal
 //! number, the order of checks, the traps, the TMS5220C, how short a frame is,
-//! frames that hold, look and acknowledge, the trace format, garbage.
+//! frames that hold, look and acknowledge, the FIFO's bit order, the trace
+//! format, garbage.
 
 use crate::chip::*;
 use crate::frame::*;
@@ -58,6 +59,11 @@ fn writes(image: &[u8], chip: Chip, bytes: &[i64]) -> Chip {
         chip = answer.chip;
     }
     chip
+}
+
+/// The TMS5220 with document 01's order of the FIFO's bits.
+fn most_first() -> Chip {
+    power_up_with(TMS5220, MOST_FIRST)
 }
 
 /// Powered up, Speak External, then these bytes.
@@ -148,7 +154,7 @@ impl Dice {
     }
     /// Any valid chip, its position mostly within an image of so many bytes.
     fn chip(&mut self, image_bytes: i64) -> Chip {
-        let mut chip = power_up();
+        let mut chip = power_up_with(TMS5220, self.within(LEAST_FIRST, MOST_FIRST));
         chip.mode = self.within(0, 3);
         if self.below(2) == 0 {
             chip.device = TMS5220C;
@@ -584,6 +590,12 @@ fn state_ranges() {
             check("unheld byte", chip, if (i as i64) < level { TAKEN } else { STATE });
         }
     }
+    // The order has no range; what is none of the two is none.
+    for base in [power_up(), external(&[1; 3]), external_speech, Chip { mode: ROM, ..sounding }] {
+        for device in [TMS5220, TMS5220C] {
+            range("order", Chip { device, ..base }, &|c, v| c.order = v, LEAST_FIRST, MOST_FIRST);
+        }
+    }
     // While sounding `hold` has no range; what is no flag is none.
     for base in [sounding, external_speech, Chip { mode: ROM, ..sounding }, Chip { mode: WAITING, ..sounding }] {
         for device in [TMS5220, TMS5220C] {
@@ -896,9 +908,10 @@ fn rom_runs_out() {
     assert_eq!(taken(&[0xFF], chip).report, RAN_OUT);
 }
 
-/// An external-speech chip with these bytes, used bits, at a boundary.
+/// An external-speech chip with these bytes, used bits, at a boundary; most
+/// significant bit first.
 fn speech(bytes: &[i64], used: i64) -> Chip {
-    let mut chip = power_up();
+    let mut chip = most_first();
     chip.mode = EXTERNAL;
     chip.sounding = 1;
     chip.level = bytes.len() as i64;
@@ -909,7 +922,7 @@ fn speech(bytes: &[i64], used: i64) -> Chip {
 
 #[test]
 fn fifo_ends() {
-    let out = Chip { interrupt: 1, ..power_up() };
+    let out = Chip { interrupt: 1, ..most_first() };
     let runs_out = |chip: Chip| {
         let stepped = taken(&[0], chip);
         assert_eq!((stepped.report, stepped.sample, stepped.frame), (RAN_OUT, 0, NO_FRAME), "{chip:?}");
@@ -939,7 +952,7 @@ fn fifo_ends() {
     assert_eq!((stepped.chip.level, stepped.chip.used, stepped.chip.fifo), (0, 0, [0; 16]));
     assert_eq!(state_refusal(&stepped.chip), TAKEN);
     // After it a byte is a command again.
-    assert_eq!(write(&[0], stepped.chip, 0x70).chip, power_up());
+    assert_eq!(write(&[0], stepped.chip, 0x70).chip, most_first());
 }
 
 #[test]
@@ -1323,7 +1336,7 @@ fn fifo_with_rate_bits() {
     for (bytes, used) in [(vec![0xFF], 7), (vec![0xFF], 6), (vec![0xFF], 3), (vec![0xC0], 2)] {
         let stepped = taken(&[0], speech_c(&bytes, used));
         assert_eq!((stepped.report, stepped.frame), (RAN_OUT, NO_FRAME));
-        assert_eq!(stepped.chip, Chip { interrupt: 1, ..rated(1, 0) });
+        assert_eq!(stepped.chip, Chip { interrupt: 1, order: MOST_FIRST, ..rated(1, 0) });
     }
     // A stop that ends the FIFO is a stop.
     let stepped = taken(&[0], speech_c(&[0xFF], 2));
@@ -1576,7 +1589,7 @@ fn short_by_rule(image: &[u8], before: &Chip, stepped: &Stepped) {
     assert_eq!((begun, used_up), (0, 8 * before.level - before.used));
     // The same bits as an image: a cut frame there, or a whole one that ends
     // with them.
-    let bytes: Vec<u8> = before.fifo[..before.level as usize].iter().map(|byte| *byte as u8).collect();
+    let bytes: Vec<u8> = before.fifo[..before.level as usize].iter().map(|byte| in_rom(before.order, *byte)).collect();
     let answer = rated_frame_at(&bytes, before.v, before.used);
     assert_eq!(answer.cut.missing, missing);
     assert!(answer.refusal == NO_PHRASE || answer.bits == used_up && answer.frame.kind != STOP);
@@ -1801,7 +1814,7 @@ fn rest_does_not_hold() {
     assert_eq!((boundary.hold, boundary.sample, boundary.interval), (1, 0, 0));
     let out = taken(&image[..6], boundary);
     assert_eq!((out.report, out.chip.hold, out.chip.sounding), (RAN_OUT, 0, 0));
-    assert_eq!(taken(&[0], Chip { hold: 1, ..speech(&[0], 4) }).chip, Chip { interrupt: 1, ..power_up() });
+    assert_eq!(taken(&[0], Chip { hold: 1, ..speech(&[0], 4) }).chip, Chip { interrupt: 1, ..most_first() });
     // The stop's frame doesn't hold, and a state in it that does is at rest
     // after it.
     let stopped = taken(&image, boundary).chip;
@@ -1931,7 +1944,190 @@ fn look_refused() {
     }
 }
 
+// ---------------------------------------------------------------- the FIFO's bit order
+
+/// The byte of an image that has the bits of a FIFO byte in the order in which
+/// they are spoken.
+fn in_rom(order: i64, byte: i64) -> u8 {
+    let byte = byte as u8;
+    if order == LEAST_FIRST {
+        return byte.reverse_bits();
+    }
+    byte
+}
+
+/// The bytes that a host writes for these bits.
+fn fed(order: i64, text: &str) -> Vec<i64> {
+    bits(text).iter().map(|byte| i64::from(in_rom(order, i64::from(*byte)))).collect()
+}
+
+/// The same chip with the other order and each byte of the FIFO turned round.
+fn mirrored(chip: Chip) -> Chip {
+    let mut other = chip;
+    for byte in other.fifo.iter_mut() {
+        *byte = i64::from(in_rom(LEAST_FIRST, *byte));
+    }
+    other.order = MOST_FIRST - chip.order;
+    other
+}
+
+#[test]
+fn power_ups_and_their_orders() {
+    for device in [TMS5220, TMS5220C] {
+        for order in [LEAST_FIRST, MOST_FIRST] {
+            let chip = power_up_with(device, order);
+            assert_eq!((chip.device, chip.order), (device, order));
+            assert_eq!(chip, Chip { device, order, ..power_up() });
+            assert_eq!(state_refusal(&chip), TAKEN);
+            assert_eq!(status_of(chip), 0x60);
+        }
+        assert_eq!(power_up_of(device), power_up_with(device, LEAST_FIRST));
+    }
+    assert_eq!(power_up(), power_up_with(TMS5220, LEAST_FIRST));
+}
+
+#[test]
+fn orders_by_hand() {
+    // 0F: the ones leave first or last. The bytes of a FIFO stay as written.
+    for (order, byte, used, report, kind) in [
+        (LEAST_FIRST, 0x0F, 0, STOPPED, STOP),
+        (LEAST_FIRST, 0xF0, 0, FRAME, SILENCE),
+        (LEAST_FIRST, 0xF0, 4, STOPPED, STOP),
+        (LEAST_FIRST, 0x0F, 4, RAN_OUT, NONE),
+        (MOST_FIRST, 0x0F, 0, FRAME, SILENCE),
+        (MOST_FIRST, 0xF0, 0, STOPPED, STOP),
+        (MOST_FIRST, 0x0F, 4, STOPPED, STOP),
+        (MOST_FIRST, 0xF0, 4, RAN_OUT, NONE),
+    ] {
+        let stepped = taken(&[0], Chip { order, ..speech(&[byte], used) });
+        assert_eq!((stepped.report, stepped.frame.kind), (report, kind), "order {order}, {byte:02x} after {used}");
+        if report == FRAME {
+            assert_eq!((stepped.chip.level, stepped.chip.used, stepped.chip.fifo[0]), (1, 4, byte));
+        }
+    }
+    // 1100 1 010011 least first: 53 in the first byte is 1100 1010, E6 in the
+    // second 0110 0111. The first bit of a field is still its highest.
+    let stepped = taken(&[0], Chip { order: LEAST_FIRST, ..speech(&[0x53, 0xE6], 0) });
+    assert_eq!(stepped.frame, Frame { kind: REPEAT, energy: 12, pitch: 0b010_011, ..NO_FRAME });
+    assert_eq!((stepped.chip.level, stepped.chip.used, stepped.chip.fifo[0]), (1, 3, 0xE6));
+    // Most first the same bytes are 0101 0 011111 and a cut K1.
+    let stepped = taken(&[0], speech(&[0x53, 0xE6], 0));
+    assert_eq!((stepped.report, short_of(&stepped)), (RAN_OUT, (0, 16, 34)));
+    // The rate bits come in the same order: 02 begins with 01 least first, with
+    // 00 most first.
+    for (order, rate) in [(LEAST_FIRST, 1), (MOST_FIRST, 0)] {
+        let stepped = taken(&[0], Chip { device: TMS5220C, v: 1, order, ..speech(&[0b0000_0010, 0], 0) });
+        assert_eq!((stepped.frame.kind, stepped.frame.rate, stepped.chip.used), (SILENCE, rate, 6));
+    }
+}
+
+#[test]
+fn frames_in_both_orders() {
+    // Each kind behind each number of used bits, with and without rate bits.
+    for (text, kind, width) in KINDS_TO_TRY {
+        for v in 0..=1 {
+            for lead in 0..8 {
+                let rate = if v == 1 { "10" } else { "" };
+                let whole = format!("{}{rate}{text}{}", "1".repeat(lead), "0".repeat(64));
+                for order in [LEAST_FIRST, MOST_FIRST] {
+                    let bytes = fed(order, &whole);
+                    let chip = Chip { device: TMS5220C, v, order, ..speech(&bytes, lead as i64) };
+                    let stepped = taken(&[0], chip);
+                    let expected = rated_frame_at(&bits(&whole), v, lead as i64);
+                    assert_eq!((expected.frame.kind, expected.bits), (kind, width + 2 * v));
+                    assert_eq!((stepped.frame, stepped.chip.order), (expected.frame, order));
+                    if kind != STOP {
+                        let out = lead as i64 + width + 2 * v;
+                        assert_eq!((stepped.chip.level, stepped.chip.used), (chip.level - out / 8, out % 8));
+                        assert_eq!(stepped.chip.fifo[0], bytes[(out / 8) as usize]);
+                    }
+                }
+            }
+        }
+    }
+}
+
+#[test]
+fn the_order_stays() {
+    let image = [0x0F, 0x21, 0x84];
+    for device in [TMS5220, TMS5220C] {
+        for order in [LEAST_FIRST, MOST_FIRST] {
+            let up = power_up_with(device, order);
+            // Each command, Reset among them, from idle.
+            for byte in 0..256 {
+                assert_eq!(write(&image, up, byte).chip.order, order);
+            }
+            assert_eq!(writes(&image, up, &[0x41, 0x10, 0x70]), up);
+            assert_eq!(writes(&image, up, &[0x50, 0x70]), up);
+            // A stop, its frame's end, and Reset in it.
+            let waiting = writes(&image, up, &[0x60]);
+            let stopped = taken(&image, writes(&image, waiting, &[0xFF; 9])).chip;
+            assert_eq!((stopped.mode, stopped.level, stopped.order), (IDLE, 0, order));
+            assert_eq!(writes(&image, stopped, &[0x70]), up);
+            let rest = taken(&image, steps(&image, stopped, 199)).chip;
+            assert_eq!(rest, Chip { interrupt: 1, ..up });
+            // Running out, and a second speech in the same order.
+            let speech = writes(&image, waiting, &[0; 9]);
+            let out = taken(&image, steps(&image, speech, 3_400)).chip;
+            assert_eq!(out, Chip { interrupt: 1, ..up });
+            let again = writes(&image, writes(&image, out, &[0x60]), &fed(order, &"0101 1 000011".repeat(7)));
+            assert_eq!(taken(&image, again).frame, Frame { kind: REPEAT, energy: 5, pitch: 3, ..NO_FRAME });
+        }
+    }
+}
+
+/// ROM bits, Read Byte, branches, frames taken and walks have no order.
+#[test]
+fn rom_has_its_own_order() {
+    let image = [0x2C, 0x11, 0xF7, 0x0F];
+    for device in [TMS5220, TMS5220C] {
+        let chips = [LEAST_FIRST, MOST_FIRST].map(|order| power_up_with(device, order));
+        for byte in [0x10, 0x30, 0x41, 0x50] {
+            let [least, most] = chips.map(|chip| write(&image, chip, byte).chip);
+            assert_eq!(least, mirrored(most));
+        }
+        assert_eq!(writes(&image, chips[0], &[0x10]).data, 0x2C);
+        let [least, most] = chips.map(|chip| taken(&image, writes(&image, chip, &[0x50])));
+        assert_eq!((least.frame, least.sample, least.chip), (most.frame, most.sample, mirrored(most.chip)));
+        assert_eq!(least.frame, frame_at(&image, 0).frame);
+    }
+}
+
 // ---------------------------------------------------------------- laws
+
+/// Whatever is done with a chip can be done with the other order and each
+/// byte for the FIFO turned round, and nothing else differs.
+#[test]
+fn orders_are_mirrors() {
+    let mut dice = Dice(0x9999_1111);
+    for _ in 0..20_000 {
+        let bytes = 1 + dice.below(12) as usize;
+        let image = dice.bytes(bytes);
+        let file = voice(1 + dice.below(64) as i64);
+        let chip = dice.chip(bytes as i64);
+        let other = mirrored(chip);
+        assert_eq!((state_refusal(&other), status(&other)), (TAKEN, status(&chip)));
+        // In the external modes the byte is turned round, elsewhere it is a
+        // command.
+        let byte = dice.below(256) as i64;
+        let turned = if chip.mode == WAITING || chip.mode == EXTERNAL { i64::from(in_rom(LEAST_FIRST, byte)) } else { byte };
+        let (one, two) = (write(&image, chip, byte), write(&image, other, turned));
+        assert_eq!((two.refusal, two.chip), (one.refusal, mirrored(one.chip)));
+        let (one, two) = (read(chip), read(other));
+        assert_eq!((two.byte, two.chip), (one.byte, mirrored(one.chip)));
+        let (mut one, mut two) = (chip, other);
+        for _ in 0..dice.below(3) {
+            let (left, right) = (step(&image, &file, one), step(&image, &file, two));
+            assert_eq!((right.sample, right.report, right.frame, right.short), (left.sample, left.report, left.frame, left.short));
+            assert_eq!(right.chip, mirrored(left.chip));
+            (one, two) = (left.chip, right.chip);
+        }
+        // No call changes the order.
+        for after in [one.order, write(&image, chip, byte).chip.order, read(chip).chip.order, acknowledge(chip).chip.order] {
+            assert_eq!(after, chip.order);
+        }
+    }
+}
 
 /// Refused calls return the given state, taken ones a valid one, and a run is
 /// one step for each element.
@@ -2039,9 +2235,14 @@ fn power_line() -> String {
 }
 
 fn power_line_of(device: i64) -> String {
+    power_line_with(device, LEAST_FIRST)
+}
+
+fn power_line_with(device: i64, order: i64) -> String {
     let mut numbers = [0; CHIP_NUMBERS];
     numbers[27] = 8191;
     numbers[63] = device;
+    numbers[67] = order;
     format!("C{}\n", numbers.iter().map(|number| format!(" {number}")).collect::<String>())
 }
 
@@ -2111,6 +2312,37 @@ fn trace_rates() {
 }
 
 #[test]
+fn trace_orders() {
+    for (device, order) in [(TMS5220, LEAST_FIRST), (TMS5220, MOST_FIRST), (TMS5220C, LEAST_FIRST), (TMS5220C, MOST_FIRST)] {
+        let record = [b'O', device as u8, order as u8];
+        let line = power_line_with(device, order);
+        assert_eq!(played(&record), format!("O 0\n{line}"));
+        // It is the chip of the calls behind it.
+        let script = [counted(b'I', &[0]), record.to_vec(), b"W\x70R".to_vec()].concat();
+        assert_eq!(played(&script), format!("I 1\nO 0\n{line}W 0\n{line}R 0 96\n{line}"));
+        // The plain power-ups, whatever chip there was.
+        for (plain, device) in [("P", TMS5220), ("Q", TMS5220C)] {
+            let script = [&record[..], plain.as_bytes()].concat();
+            assert_eq!(played(&script), format!("O 0\n{line}{plain} 0\n{}", power_line_of(device)));
+        }
+    }
+    // The player's first chip: 0F is a stop to it, F0 begins with a silence.
+    for (byte, report) in [(0x0F, "T 0 0 2"), (0xF0, "T 0 0 1")] {
+        let bytes: Vec<u8> = [byte; 9].into_iter().flat_map(|byte| [b'W', byte]).collect();
+        let script = [counted(b'I', &[0]), counted(b'V', &voice(1)), b"W\x60".to_vec(), bytes, b"T".to_vec()].concat();
+        assert!(played(&script).lines().rev().nth(1).unwrap().starts_with(report));
+    }
+    // A device or an order above 1, and one that is cut off.
+    for record in [&b"O\x02\0"[..], b"O\0\x02", b"O\xFF\x01", b"O\x01\xFF", b"O\x02\x02", b"O", b"O\0", b"O\x02", b"O\x01"] {
+        assert_eq!(played(&[b"P", record].concat()), format!("P 0\n{}bad script\n", power_line()));
+        // Nothing behind it is played.
+        if record.len() == 3 {
+            assert_eq!(played(&[record, b"PPP"].concat()), "bad script\n");
+        }
+    }
+}
+
+#[test]
 fn trace_cuts() {
     let none = " 0".repeat(13);
     let image = counted(b'I', &[0x03, 0x83]);
@@ -2127,8 +2359,9 @@ fn trace_cuts() {
     let told: Vec<&str> = text.lines().filter(|line| line.starts_with('T')).collect();
     assert_eq!(told, [format!("T 0 0 3{none} 0 15 0 3"), format!("T 0 0 0{none} 0 0 0 0")]);
     // From the FIFO: seventeen silences, and the eighteenth with the last bit;
-    // then another speech whose last bits are 0001.
-    for (last, line) in [(0x00, "0 4 0"), (0x01, "0 4 7")] {
+    // then another speech whose last bits are 0001, the last of them the byte's
+    // highest.
+    for (last, line) in [(0x00, "0 4 0"), (0x80, "0 4 7")] {
         let bytes: Vec<u8> = [0; 8].into_iter().chain([last]).flat_map(|byte| [b'W', byte]).collect();
         let speak = [counted(b'I', &[0]), counted(b'V', &voice(3)), b"W\x60".to_vec(), bytes, numbered(b'U', 3_400)].concat();
         let text = played(&[speak, b"T".to_vec()].concat());
@@ -2156,8 +2389,8 @@ fn trace_runs() {
 
 #[test]
 fn trace_states() {
-    // All 67 numbers come back as they are, and in their places.
-    let numbers: Vec<i64> = (1..=67).collect();
+    // All 68 numbers come back as they are, and in their places.
+    let numbers: Vec<i64> = (1..=68).collect();
     let line = format!("C{}\n", numbers.iter().map(|number| format!(" {number}")).collect::<String>());
     assert_eq!(played(&state_record(&numbers)), line);
     let mut array = [0; CHIP_NUMBERS];
@@ -2168,12 +2401,12 @@ fn trace_states() {
     assert_eq!((chip.currents.energy, chip.currents.k[1], chip.currents.k[10]), (30, 32, 41));
     assert_eq!((chip.targets.energy, chip.targets.k[1], chip.targets.k[10]), (42, 44, 53));
     assert_eq!((chip.memory[1], chip.memory[10]), (54, 63));
-    assert_eq!((chip.device, chip.v, chip.rr, chip.hold), (64, 65, 66, 67));
-    // A TMS5220 has no rate, but it holds.
-    array[63..].copy_from_slice(&[TMS5220, 1, 3, 1]);
-    assert_eq!(numbers_of(&chip_of(&array))[63..], [TMS5220, 0, 0, 1]);
+    assert_eq!((chip.device, chip.v, chip.rr, chip.hold, chip.order), (64, 65, 66, 67, 68));
+    // A TMS5220 has no rate, but it holds, and has an order.
+    array[63..].copy_from_slice(&[TMS5220, 1, 3, 1, 1]);
+    assert_eq!(numbers_of(&chip_of(&array))[63..], [TMS5220, 0, 0, 1, 1]);
     array[63] = TMS5220C;
-    assert_eq!(numbers_of(&chip_of(&array))[63..], [TMS5220C, 1, 3, 1]);
+    assert_eq!(numbers_of(&chip_of(&array))[63..], [TMS5220C, 1, 3, 1, 1]);
     // Levels of 17 and 255 beside 16 bytes: refused, printed as given.
     for level in [17, 255] {
         let mut numbers = numbers_of(&speech(&[1; 16], 0));
@@ -2209,7 +2442,7 @@ fn bad_scripts() {
     assert_eq!(played(b"U\xFF\xFF\xFF\xFF"), "bad script\n");
     assert_eq!(played(b"V\0\0\0\0\nP"), "V 5\nbad script\n");
     let state = state_record(&[0; CHIP_NUMBERS]);
-    assert_eq!(state.len(), 537);
+    assert_eq!(state.len(), 545);
     for cut in 1..state.len() {
         assert_eq!(played(&state[..cut]), "bad script\n");
     }
@@ -2230,11 +2463,11 @@ fn garbage() {
         played(&dice.bytes(length));
     }
     // Letters more often than by chance.
-    let letters = b"IVFAPSWRTUQGBLK";
+    let letters = b"IVFAPSWRTUQGBLKO";
     for _ in 0..3_000 {
         let mut script = Vec::new();
         for _ in 0..dice.below(60) {
-            let letter = letters[dice.below(15) as usize];
+            let letter = letters[dice.below(16) as usize];
             match letter {
                 b'I' => {
                     let length = dice.below(20) as usize;
@@ -2274,6 +2507,7 @@ fn garbage() {
                     script.extend(state_record(&numbers));
                 }
                 b'W' => script.extend([b'W', dice.below(256) as u8]),
+                b'O' => script.extend([b'O', dice.within(0, 1) as u8, dice.within(0, 1) as u8]),
                 _ => script.push(letter),
             }
         }

@@ -2,9 +2,9 @@
 
 use std::io::{self, Write};
 
-use crate::chip::{acknowledge, look, power_up, power_up_of, read, write, Chip, Values};
+use crate::chip::{acknowledge, look, power_up, power_up_of, power_up_with, read, write, Chip, Values};
 use crate::frame::{Cut, Frame};
-use crate::numbers::{TMS5220, TMS5220C};
+use crate::numbers::{MOST_FIRST, TMS5220, TMS5220C};
 use crate::rom::{frame_at, rated_frame_at, rated_walk, walk, Walked};
 use crate::sound::{run, step, Short};
 use crate::voice::voice_refusal;
@@ -15,8 +15,8 @@ pub const MOST_SCRIPT_BYTES: usize = 1_048_576;
 const LONGEST_RUN: i64 = 8_192;
 // trace: "each 9,999 before the call".
 const UNTOUCHED: i64 = 9_999;
-// trace: "`S` | as many i64 as `C` has numbers"; "537 [bytes] from §3 on".
-pub const CHIP_NUMBERS: usize = 67;
+// trace: "`S` | as many i64 as `C` has numbers"; "545 [bytes] from §9 on".
+pub const CHIP_NUMBERS: usize = 68;
 
 /// What is left of the script.
 struct Script<'a> {
@@ -58,7 +58,7 @@ impl<'a> Script<'a> {
 }
 
 /// trace: "The player keeps an image (at first empty), a voice file (at first
-/// empty) and a chip (at first as powered up)."
+/// empty) and a chip (at first as after `P`)."
 struct Player<'a, 'b> {
     script: Script<'a>,
     image: &'a [u8],
@@ -83,9 +83,9 @@ pub fn play(script: &[u8], out: &mut dyn Write) -> io::Result<()> {
     };
     // trace: "records one after another up to its end".
     while !player.script.rest.is_empty() {
-        // trace: "A record that is cut off, an unknown letter, a run longer
-        // than 8,192 [..]: the line `bad script` after the answers so far, and
-        // nothing more."
+        // trace: "A record that is cut off; a letter that is unknown [..]; a run
+        // [..] longer than 8,192; a device, an order [..] above 1 [..]: the
+        // line `bad script` after the answers so far, and nothing more."
         let Some(answered) = player.record() else {
             return writeln!(player.out, "bad script");
         };
@@ -113,6 +113,7 @@ impl Player<'_, '_> {
             b'B' => self.rated_walk_record(),
             b'L' => self.look_record(),
             b'K' => self.acknowledge_record(),
+            b'O' => self.power_with_record(),
             _ => None,
         }
     }
@@ -173,6 +174,17 @@ impl Player<'_, '_> {
     fn power_c_record(&mut self) -> Option<io::Result<()>> {
         self.chip = power_up_of(TMS5220C);
         Some(writeln!(self.out, "Q 0").and_then(|()| self.chip_line()))
+    }
+
+    /// trace: "`O` | u8 device (0 or 1), u8 order (0 or 1)", "`O 0`, then `C`".
+    fn power_with_record(&mut self) -> Option<io::Result<()>> {
+        let device = i64::from(self.script.byte()?);
+        let order = i64::from(self.script.byte()?);
+        if device > TMS5220C || order > MOST_FIRST {
+            return None;
+        }
+        self.chip = power_up_with(device, order);
+        Some(writeln!(self.out, "O 0").and_then(|()| self.chip_line()))
     }
 
     /// trace: "chip = this state, valid or not (no call is made)"; `C`.
@@ -309,7 +321,7 @@ fn short_text(short: &Short) -> String {
     numbers_text(&[short.begun, short.used_up, short.missing])
 }
 
-/// The chip's 67 numbers, in the order of the trace format's table.
+/// The chip's 68 numbers, in the order of the trace format's table.
 pub fn numbers_of(chip: &Chip) -> Vec<i64> {
     let mut numbers = vec![
         chip.mode,
@@ -328,11 +340,11 @@ pub fn numbers_of(chip: &Chip) -> Vec<i64> {
     numbers.extend([chip.targets.energy, chip.targets.pitch]);
     numbers.extend(&chip.targets.k[1..=10]);
     numbers.extend(&chip.memory[1..=10]);
-    numbers.extend([chip.device, chip.v, chip.rr, chip.hold]);
+    numbers.extend([chip.device, chip.v, chip.rr, chip.hold, chip.order]);
     numbers
 }
 
-/// The chip with these 67 numbers; `No. n` of the table stands at n - 1.
+/// The chip with these 68 numbers; `No. n` of the table stands at n - 1.
 pub fn chip_of(numbers: &[i64; CHIP_NUMBERS]) -> Chip {
     let no = |n: usize| numbers[n - 1];
     let mut fifo = [0; 16];
@@ -361,6 +373,7 @@ pub fn chip_of(numbers: &[i64; CHIP_NUMBERS]) -> Chip {
         v: rate_number(no(64), no(65)),
         rr: rate_number(no(64), no(66)),
         hold: no(67),
+        order: no(68),
     }
 }
 
