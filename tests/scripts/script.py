@@ -1,9 +1,11 @@
 """The records of a trace script: written, and taken apart again."""
 import struct
 
+from states import LEAST_FIRST, MOST_FIRST, TMS5220, TMS5220C
+
 MOST_SCRIPT_BYTES = 1048576
 LONGEST_RUN = 8192
-CHIP_NUMBERS = 67
+CHIP_NUMBERS = 68
 
 
 # ---- one function for each letter; what it returns is the record's bytes
@@ -24,15 +26,29 @@ def walk(*addresses):
     return b''.join(b'A' + struct.pack('<I', address) for address in addresses)
 
 
+# power-ups: of each device with a bit order of the FIFO, with document 01's, which is asked for by name, and plain
+
+def power_up_with(device, order):
+    return b'O' + bytes([device, order])
+
+
 def power_up():
+    return power_up_with(TMS5220, MOST_FIRST)
+
+
+def power_up_c():
+    return power_up_with(TMS5220C, MOST_FIRST)
+
+
+def plain_power_up():
     return b'P'
 
 
-# the TMS5220C
-
-def power_up_c():
+def plain_power_up_c():
     return b'Q'
 
+
+# the TMS5220C
 
 def rated_frame_at(v, *bits):
     return b''.join(b'G' + struct.pack('<BI', v, bit) for bit in bits)
@@ -96,11 +112,11 @@ def load_address(address):
 # ---- taking a script apart
 
 # the letters whose answer has a second line, the chip
-WITH_CHIP = b'PQWRTULK'
+WITH_CHIP = b'PQOWRTULK'
 # the letters that call an operation of the library
-CALLS = b'VFAPQGBWRTULK'
+CALLS = b'VFAPQOGBWRTULK'
 FIXED = {b'F': 4, b'A': 4, b'P': 0, b'S': 8 * CHIP_NUMBERS, b'W': 1, b'R': 0, b'T': 0, b'U': 4, b'Q': 0, b'G': 5, b'B': 6,
-         b'L': 0, b'K': 0}
+         b'L': 0, b'K': 0, b'O': 2}
 
 
 def records(script):
@@ -118,5 +134,7 @@ def records(script):
         else:
             return
         if at > len(script) or letter == b'U' and struct.unpack_from('<I', script, start + 1)[0] > LONGEST_RUN:
+            return
+        if letter == b'O' and max(script[start + 1:at]) > 1:
             return
         yield start, at, letter, 2 if letter in WITH_CHIP else 1

@@ -251,7 +251,7 @@ def on_tms5220c(pick, script):
     out = b''
     for start, end, letter, _ in records(script):
         record = script[start:end]
-        if letter == b'P':
+        if letter == b'O':
             record = power_up_c() + (write(rate_byte(pick)) if pick.chance(70) else b'')
         elif letter == b'S':
             rates = states.any_broken_rates(pick) if pick.chance(8) else states.any_rates(pick)
