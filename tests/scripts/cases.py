@@ -7,6 +7,7 @@ from cases_commands import *
 from cases_hold import HOLD_TOPICS
 from cases_looks import LOOK_TOPICS
 from cases_numbers import *
+from cases_order import ORDER_TOPICS, first_chip
 from cases_rates import RATE_TOPICS
 from cases_rom import *
 from cases_short import SHORT_TOPICS
@@ -55,11 +56,11 @@ def longest_run():
 
 # numbers_nine_ff leads on from numbers_status, and the first topic of the rates from numbers_images; the others begin with what
 # they need
-TOPICS = [numbers_walks, numbers_addresses, numbers_status, numbers_nine_ff, numbers_nine_00, numbers_seventeenth,
+TOPICS = [first_chip, numbers_walks, numbers_addresses, numbers_status, numbers_nine_ff, numbers_nine_00, numbers_seventeenth,
           numbers_voices, order_of_checks, frames_at_bits, walks, loads, restarts, read_bytes, every_command, statuses,
           ninth_byte, fifo_ends, interrupts, external_paces, spoken_kinds, rom_ends, image_changes, boundaries, interpolations,
           excitations, filters, state_edges, voice_faults, some_of_each_theme, longest_run, numbers_images]
-TOPICS += RATE_TOPICS + LOOK_TOPICS + HOLD_TOPICS + SHORT_TOPICS
+TOPICS += RATE_TOPICS + LOOK_TOPICS + HOLD_TOPICS + SHORT_TOPICS + ORDER_TOPICS
 
 
 def stored_script():

@@ -1,4 +1,5 @@
-"""Frames as bits, and the images that hold them (document 01, "Frames", and 02, §5 and §4)."""
+"""Frames as bits, and the images and FIFO bytes that hold them (document 01, "Frames", and 02, §5, §4 and §9)."""
+from states import MOST_FIRST
 
 K_BITS = [5, 5, 4, 4, 4, 4, 4, 3, 3, 3]
 MOST_IMAGE_BYTES = 262144
@@ -32,6 +33,17 @@ def pack(text, fill='0'):
     """The bytes that begin with these bits; `fill` completes the last one."""
     text += fill * (-len(text) % 8)
     return bytes(int(text[i:i + 8], 2) for i in range(0, len(text), 8))
+
+
+def turned(data):
+    """The same bytes, each with its bits in the other order."""
+    return bytes(int(f'{byte:08b}'[::-1], 2) for byte in data)
+
+
+def fed(order, text, fill='0'):
+    """The bytes that a host writes for these bits to a chip with this order."""
+    data = pack(text, fill)
+    return data if order == MOST_FIRST else turned(data)
 
 
 def any_frame(pick):

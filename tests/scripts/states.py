@@ -150,6 +150,18 @@ def hold_edges():
         yield powered_up(mode=mode, device=1 - mode % 2, sounding=1, hold=1, **fifo)
 
 
+def order_edges():
+    """Least significant first, which is valid in every mode and on both devices; beside a field that is out of its range the
+    state is as bad as with the other order."""
+    for mode in (IDLE, ROM, WAITING, EXTERNAL):
+        yield in_mode(mode, order=LEAST_FIRST, device=mode % 2)
+    yield powered_up(order=LEAST_FIRST, sample=1)
+    yield in_mode(IDLE, order=LEAST_FIRST, data=1)
+    yield in_mode(ROM, order=LEAST_FIRST, device=TMS5220C, rr=4)
+    yield in_mode(WAITING, order=LEAST_FIRST, used=1)
+    yield in_mode(EXTERNAL, order=LEAST_FIRST, device=TMS5220C, used=8)
+
+
 # ---- random states
 
 def any_sound(pick):

@@ -624,14 +624,111 @@ def cut_states(pick):
 OF_CUTS = [cut_phrases, cut_rom_speech, cut_external_speech, cut_states]
 
 
+# ---- the FIFO's bit order
+
+def plain_power_up_of(device):
+    return plain_power_up_c() if device == TMS5220C else plain_power_up()
+
+
+def any_power_up(pick):
+    """Device, order and record of any power-up, plain or with an order."""
+    device, order = pick.below(2), pick.below(2)
+    if pick.chance(30):
+        return device, LEAST_FIRST, plain_power_up_of(device)
+    return device, order, power_up_with(device, order)
+
+
+def least_first(record, turn):
+    """An S record with the other order; the bytes of its FIFO turned round with it, or as they are."""
+    fields = dict(zip(states.FIELDS, struct.unpack(f'<{CHIP_NUMBERS}q', record[1:])))
+    turned = {name: images.turned(bytes([fields[name]]))[0] for name in states.FIFO} if turn else {}
+    return state_of({**fields, **turned, 'order': LEAST_FIRST})
+
+
+def in_order(pick, script):
+    """The same records, least significant bit first: each power-up, plain at times, and each state. Bytes behind Speak External
+    are turned round, so that the speech stays the same, or are not, which makes another speech of it."""
+    turn, external, out = pick.chance(70), False, b''
+    for start, end, letter, _ in records(script):
+        record = script[start:end]
+        if letter == b'O':
+            record = pick.one_of([power_up_with(record[1], LEAST_FIRST), plain_power_up_of(record[1])])
+            external = False
+        elif letter == b'S':
+            external = record[1] in (states.WAITING, states.EXTERNAL)
+            record = least_first(record, turn)
+        elif letter == b'W' and external and turn:
+            record = write(*images.turned(record[1:]))
+        elif letter == b'W' and record[1] & 0x70 == SPEAK_EXTERNAL:
+            external = True
+        out += record
+    return out
+
+
+# Any of the themes above, least significant first.
+def themes_in_order(pick):
+    return in_order(pick, pick.one_of(OF_01 + OF_RATES + OF_LOOKS + OF_HOLDS + OF_CUTS)(pick))
+
+
+# External speech on any power-up, fed in its order, too fast or too slow; another speech behind it, and behind a Reset.
+def ordered_external_speech(pick):
+    device, order, up = any_power_up(pick)
+    # a TMS5220 takes no notice of the rate
+    v = pick.below(2) if device == TMS5220C else 0
+    out = good_image(pick) + good_voice(pick) + up + set_rate(pick, v, pick.below(4))
+    for _ in range(pick.between(1, 2)):
+        text = changing_speech(pick, v, 6)
+        often, most = pick.one_of([(2, 10), (15, 200), (40, 80)])
+        out += write(SPEAK_EXTERNAL)
+        for byte in images.fed(order, text, pick.one_of('01')) + pick.bytes(pick.below(9)):
+            out += write(byte) + (pick.one_of([step(), look(), run(pick.below(most + 1))]) if pick.chance(often) else b'')
+        out += rated_calls(pick, 4) + pick.one_of([b'', run(1500), run(400) + write(RESET)])
+    return out
+
+
+# States of external speech in both orders, with any used bits, before a frame's first sample, and calls on them.
+def order_states(pick):
+    out = good_image(pick) + (hushed_voice(pick) if pick.chance(40) else b'')
+    for _ in range(pick.between(1, 3)):
+        order, v, used = pick.below(2), pick.below(2), pick.below(8)
+        device = {'device': states.TMS5220C, 'v': v, 'rr': pick.below(4)} if v or pick.chance(50) else {}
+        text = pick.one_of('01') * used + changing_speech(pick, v, 3)
+        data = images.fed(order, text, pick.one_of('01'))[:states.FIFO_BYTES]
+        fields = {**states.any_sound(pick), 'sample': 0, 'interval': 0, 'order': order, **device}
+        fields.update({states.FIFO[i]: byte for i, byte in enumerate(data)})
+        fields.update({'mode': states.EXTERNAL, 'level': len(data), 'used': used, 'position': pick.below(99)})
+        # now and then a range is broken
+        if pick.chance(15):
+            fields.update(pick.one_of([{'used': 8}, {'level': 17}, {'nibble': 5}, {'sounding': 0}, {'mode': states.WAITING}]))
+        out += state_of(states.powered_up(**fields)) + pick.one_of([step(2), step(), run(201), look()]) + rated_calls(pick, 3)
+    return out
+
+
+# Power-ups of every kind among commands, Speak External and a few bytes.
+def order_commands(pick):
+    out = good_image(pick) + (good_voice(pick) if pick.chance(50) else b'')
+    for _ in range(pick.between(2, 8)):
+        _, order, up = any_power_up(pick)
+        out += up
+        for _ in range(pick.below(6)):
+            out += write(pick.one_of(COMMANDS) + pick.below(16) + 128 * pick.below(2))
+            out += some_calls(pick, 2) if pick.chance(30) else b''
+        if pick.chance(40):
+            out += write(SPEAK_EXTERNAL, *images.fed(order, images.any_frames(pick, 4))) + step() + some_calls(pick, 2)
+    return out
+
+
+OF_ORDERS = [themes_in_order, ordered_external_speech, order_states, order_commands]
+
+
 def weighed(of, often):
     """A list of themes of the length of the first one; the theme that stands for many comes oftener."""
     return of + [often] * (len(OF_01) - len(of))
 
 
-# a fifth of the themes of a random script are of each list
+# a sixth of the themes of a random script are of each list
 ALL = OF_01 + weighed(OF_RATES, themes_of_01) + weighed(OF_LOOKS, looks_in_themes) + weighed(OF_HOLDS, hold_states)
-ALL += OF_CUTS * (len(OF_01) // len(OF_CUTS))
+ALL += OF_CUTS * (len(OF_01) // len(OF_CUTS)) + OF_ORDERS * (len(OF_01) // len(OF_ORDERS))
 
 
 def any_script(pick, size):
@@ -641,13 +738,19 @@ def any_script(pick, size):
         out = on_tms5220c(pick, out)
     if pick.chance(50):
         out = with_looks(pick, out)
+    if pick.chance(50):
+        out = in_order(pick, out)
     size += len(out)
     while len(out) < size:
-        out += pick.one_of(ALL)(pick)
+        theme = pick.one_of(ALL)
+        part = theme(pick)
+        # the lists before §9's have most significant first; half of what is made of them is played with the other order
+        out += in_order(pick, part) if theme not in OF_ORDERS and pick.chance(50) else part
     if pick.chance(10):
         too_long, cut = [run(LONGEST_RUN + 1), run(2 ** 32 - 1)], [image(b'\xff')[:3], voice(bytes(9))[:-1]]
         cut += [rated_frame_at(1, 0)[:-1], rated_walk(1, 2, 0)[:-1]]
-        out += pick.one_of([b'x', b'\0', b'i', b'q', b'l', b'k'] + too_long + cut) + step()
+        above = [power_up_with(*pick.one_of([(2, 0), (0, 2), (255, 255), (1, pick.between(2, 255))]))]
+        out += pick.one_of([b'x', b'\0', b'i', b'q', b'l', b'k', b'o'] + too_long + cut + above) + step()
     if pick.chance(10):
         out = out[:pick.below(len(out) + 1)]
     return out[:MOST_SCRIPT_BYTES]
