@@ -5,6 +5,7 @@ pub mod KindLaws
 pub mod Decoding
 pub mod Taking
 pub mod Encoding
+pub mod AllBits
 pub mod CentralLaw
 pub mod ItemLaws
 pub mod ItemWalk

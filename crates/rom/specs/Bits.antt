@@ -34,6 +34,11 @@ unfoldable pub digits : ℕ → ℕ → List ℕ
 digits zero x = []
 digits (suc w) x = digits w (x / 2) ++ (x % 2 ∷ [])
 
+-- the bits of bytes, one byte after another, each the most significant first
+abbrev pub bitsOfBytes : List ℕ → List ℕ
+bitsOfBytes [] = []
+bitsOfBytes (b ∷ bs) = digits 8 b ++ bitsOfBytes bs
+
 -- the image's bits from bit `at` on begin with bs
 abbrev pub Begins : List ℕ → ℕ → List ℕ → Type 0
 Begins s at [] = at ≤ 8 * length s
