@@ -1,3 +1,4 @@
 pub mod Ranges
+pub mod Orders
 pub mod Held
 pub mod Shifting

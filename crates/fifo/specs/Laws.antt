@@ -3,13 +3,13 @@ use mathlib.Core.Path.{_≡_}
 use mathlib.Core.Logic.{_↔_}
 use mathlib.Core.List.{_++_, IsPrefix}
 use Prim.Native.Nat.{ℕ, _+_, _*_, _-_, _<_, _≤_}
-use lib.ListN.{length, take, drop}
+use lib.ListN.{length, drop}
 use Rattle.rom.specs.Items.{whole, cut}
 use Rattle.rom.specs.Reader.{shortOf}
 use Rattle.rom.specs.Prefix.{prefixedCode, readPrefixed}
 use Rattle.rom.specs.declared.frames.Frame.{Frame}
 use Rattle.fifo.specs.declared.Fifo.{Fifo}
-use Rattle.fifo.specs.Buffer.{fifoSize, appended, usedUp, bitsOfByte, heldBits}
+use Rattle.fifo.specs.Buffer.{fifoSize, appended, usedUp, bitsOfByte, heldBits, heldBytes}
 
 -- what a FIFO in its ranges has, in every mode: 16 bytes, of which the level are held, and no more bits used than held
 pub record Fits (f : Fifo) : Type 0 where
@@ -23,7 +23,7 @@ HeldLength = (f : Fifo) → Fits f → length (heldBits f) ≡ 8 * f .level - f 
 
 -- A byte more puts its bits after those held.
 abbrev pub HeldAppended : Type 0
-HeldAppended = (f : Fifo) (b : ℕ) → Fits f → f .level < fifoSize → heldBits (appended f b) ≡ heldBits f ++ bitsOfByte b
+HeldAppended = (f : Fifo) (b : ℕ) → Fits f → f .level < fifoSize → heldBits (appended f b) ≡ heldBits f ++ bitsOfByte (f .order) b
 
 -- With n bits of those held gone, all of them perhaps, it holds the rest.
 abbrev pub HeldUsed : Type 0
@@ -35,13 +35,12 @@ HeldUsed = (f : Fifo) (n : ℕ) → Fits f → n ≤ length (heldBits f) → hel
 abbrev pub HeldFrame : Type 0
 HeldFrame =
     (Q P : ℕ) (f : Fifo) (i : ℕ × Frame) (next : ℕ) → Fits f
-    → (readPrefixed Q P (take (f .level) (f .bytes)) (f .«used_bits») ≡ whole i next)
+    → (readPrefixed Q P (heldBytes f) (f .«used_bits») ≡ whole i next)
     ↔ (prefixedCode Q P .Proper i × IsPrefix (prefixedCode Q P .bits i) (heldBits f) × (next ≡ f .«used_bits» + length (prefixedCode Q P .bits i)))
 
 -- It returns that the bits end, and how short they are, exactly when those held begin with the bits of no proper item.
 abbrev pub HeldCut : Type 0
 HeldCut =
     (Q P : ℕ) (f : Fifo) → Fits f
-    → let held = take (f .level) (f .bytes) in
-    (readPrefixed Q P held (f .«used_bits») ≡ cut (shortOf P held (f .«used_bits») (f .«used_bits» + Q)))
+    → (readPrefixed Q P (heldBytes f) (f .«used_bits») ≡ cut (shortOf P (heldBytes f) (f .«used_bits») (f .«used_bits» + Q)))
     ↔ ((i : ℕ × Frame) → prefixedCode Q P .Proper i → IsPrefix (prefixedCode Q P .bits i) (heldBits f) → ⊥)

@@ -1,15 +1,23 @@
 // The FIFO of external speech. It knows no mode: its ranges are bounds that the caller gives.
 ghost use mathlib.Core.Path.{_≡_};
-ghost use mathlib.Core.List.{_++_};
+ghost use mathlib.Core.List.{_++_, map};
 ghost use Prim.Native.Nat.{_*_, _≤_, _<_};
 ghost use lib.ListN.{drop, replicate};
-ghost use Rattle.fifo.specs.Buffer.{fifoSize, emptyFifo, emptied, appended, usedUp, bufferLow, bufferEmpty, clearFrom, fifoInside};
+ghost use Rattle.fifo.specs.Buffer.{fifoSize, emptyFifo, emptied, appended, usedUp, bufferLow, bufferEmpty, clearFrom, fifoInside, reversed, readBytes};
 
-// The bytes held, the oldest first, how many they are, and how many bits of the oldest are used.
+// Which bit of a byte leaves the FIFO first.
+pub enum BitOrder {
+    LeastFirst,
+    MostFirst,
+}
+
+// The bytes held as they were written, the oldest first, how many they are, how many bits of the oldest are used, and the order in which
+// bits leave.
 pub struct Fifo {
     pub bytes: [u8; 16],
     pub level: u8,
     pub used_bits: u8,
+    pub order: BitOrder,
 }
 
 // The bytes from index n on, and zeros after them.
@@ -41,31 +49,48 @@ fn clear_from(bytes: [u8; 16], from: usize) -> bool
     true
 }
 
+// The byte with its bits in reverse.
+fn reverse(byte: u8) -> u8
+    ensures { λ r. ⌜ r ≡ reversed byte ⌝ }
+{
+    let low = 128 * (byte % 2) + 64 * (byte / 2 % 2) + 32 * (byte / 4 % 2) + 16 * (byte / 8 % 2);
+    let high = 8 * (byte / 16 % 2) + 4 * (byte / 32 % 2) + 2 * (byte / 64 % 2) + byte / 128;
+    low + high
+}
+
+fn reverse_all(bytes: [u8; 16]) -> [u8; 16]
+    ensures { λ r. ⌜ r ≡ map reversed bytes ⌝ }
+{
+    let mut out = bytes;
+    for i in 0..16 {
+        out[i] = reverse(bytes[i]);
+    }
+    out
+}
+
 impl Fifo {
     pub const SIZE: u8 = 16;
 
     // BL is set with this many bytes held, or fewer.
     pub const LOW_LEVEL: u8 = 8;
 
-    pub fn empty() -> Fifo
-        ensures { λ r. ⌜ r ≡ emptyFifo ⌝ }
+    pub fn empty(order: BitOrder) -> Fifo
+        ensures { λ r. ⌜ r ≡ emptyFifo order ⌝ }
     {
         Fifo {
             bytes: [0; 16],
             level: 0,
             used_bits: 0,
+            order,
         }
     }
 
-    // All bytes gone: at a stop, at running out, at Reset.
+    // All bytes gone, at a stop, at running out and at Reset; the order stays.
     pub fn discard(self) -> Fifo
         ensures { λ r. ⌜ r ≡ emptied self ⌝ }
     {
-        let mut fifo = self;
-        fifo.bytes = [0; 16];
-        fifo.level = 0;
-        fifo.used_bits = 0;
-        fifo
+        let order = self.order;
+        Fifo::empty(order)
     }
 
     // The FIFO with a byte more. The caller has tested that there is room.
@@ -100,10 +125,22 @@ impl Fifo {
         let n = bits / 8;
         let old = self.bytes;
         let bytes = shift(old, n);
-        Fifo {
-            bytes,
-            level: self.level - n as u8,
-            used_bits: (bits % 8) as u8,
+        let mut fifo = self;
+        fifo.bytes = bytes;
+        fifo.level = self.level - n as u8;
+        fifo.used_bits = (bits % 8) as u8;
+        fifo
+    }
+
+    // The bytes for a reader that takes the most significant bit first.
+    pub fn read_bytes(self) -> [u8; 16]
+        ensures { λ r. ⌜ r ≡ readBytes (self .order) (self .bytes) ⌝ }
+    {
+        let bytes = self.bytes;
+        let order = self.order;
+        match order {
+            BitOrder::LeastFirst => reverse_all(bytes),
+            BitOrder::MostFirst => bytes,
         }
     }
 
