@@ -19,9 +19,9 @@ soundKept k = record { control = k; rests = false }
 abbrev pub talking : Mode → Control → Accepted
 talking m k = record { control = withClock (started (k .clock)) (withMode m k); rests = true }
 
--- Reset gives the power-up state, in which the sound is at rest
+-- Reset gives the power-up state, in which the sound is at rest; the order of the FIFO's bits survives it (02, §9)
 abbrev pub reset : Control → Accepted
-reset k = record { control = powerUpControl (atPowerUp (k .device)); rests = true }
+reset k = record { control = powerUpControl (atPowerUp (k .device)) (k .fifo .order); rests = true }
 
 -- the control without pending data
 abbrev pub dataDropped : Control → Control

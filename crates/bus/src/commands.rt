@@ -40,7 +40,9 @@ pub(crate) fn reset(control: Control) -> Accepted
     ensures { λ r. ⌜ r ≡ reset control ⌝ }
 {
     let device = control.device;
-    let next = Control::power_up(device.power_up());
+    let fifo = control.fifo;
+    let order = fifo.order;
+    let next = Control::power_up(device.power_up(), order);
     Accepted {
         control: next,
         rests: true,

@@ -4,18 +4,19 @@ use Prim.Native.Nat.{ℕ}
 use Rattle.address.specs.Addresses.{powerUpAddress}
 use Rattle.clock.specs.Counters.{powerUpClock}
 use Rattle.fifo.specs.Buffer.{emptyFifo}
-use Rattle.control.specs.Types.{Device, Mode, Idle, AddressRegister, Fifo, Port, Clock, Control}
+use Rattle.control.specs.Types.{Device, Mode, Idle, AddressRegister, BitOrder, Fifo, Port, Clock, Control}
 
 -- the bytes with which external speaking starts
 abbrev pub startLevel : ℕ
 startLevel = 9
 
--- power-up of a device (01, "Commands, FIFO, status"): idle, silent, empty FIFO, position 0, no data byte, no interrupt
-abbrev pub powerUpControl : Device → Control
-powerUpControl d = record {
+-- power-up of a device, with an order in which the FIFO's bits leave (01, "Commands, FIFO, status"; 02, §9): idle, silent, empty FIFO,
+-- position 0, no data byte, no interrupt
+abbrev pub powerUpControl : Device → BitOrder → Control
+powerUpControl d o = record {
   mode = Idle;
   address = powerUpAddress;
-  fifo = emptyFifo;
+  fifo = emptyFifo o;
   port = record { pending = false; «data» = 0; interrupt = false };
   clock = powerUpClock;
   device = d;

@@ -1,6 +1,7 @@
 -- The declared types of the source and of the crates below it, by short names.
 pub use Rattle.address.specs.declared.AddressRegister.{AddressRegister}
 pub use Rattle.clock.specs.declared.Clock.{Clock}
+pub use Rattle.fifo.specs.declared.BitOrder.{BitOrder}
 pub use Rattle.fifo.specs.declared.Fifo.{Fifo}
 pub use Rattle.rates.specs.declared.rate.FrameRate.{FrameRate}
 pub use Rattle.control.specs.declared.device.Device.{Device}

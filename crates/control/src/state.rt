@@ -4,6 +4,7 @@ ghost use Rattle.control.specs.State.{powerUpControl, withMode, withAddr
 use crate::device::Device;
 use address::AddressRegister;
 use clock::Clock;
+use fifo::BitOrder;
 use fifo::Fifo;
 
 pub enum Mode {
@@ -37,11 +38,11 @@ impl Control {
     // External speaking starts with this many bytes held.
     pub const START_LEVEL: u8 = 9;
 
-    pub fn power_up(device: Device) -> Control
-        ensures { λ r. ⌜ r ≡ powerUpControl device ⌝ }
+    pub fn power_up(device: Device, order: BitOrder) -> Control
+        ensures { λ r. ⌜ r ≡ powerUpControl device order ⌝ }
     {
         let address = AddressRegister::power_up();
-        let fifo = Fifo::empty();
+        let fifo = Fifo::empty(order);
         let clock = Clock::power_up();
         Control {
             mode: Mode::Idle,
