@@ -18,7 +18,7 @@ use Rattle.rom.specs.declared.reader.FrameAnswer.{FrameAnswer}
 use Rattle.rom.specs.declared.reader.FrameAnswer.the-variants.{Whole, Cut}
 use Rattle.rom.specs.declared.reader.Shortfall.{Shortfall}
 use Rattle.clock.specs.Counters.{begun, counted, frameBegins}
-use Rattle.fifo.specs.Buffer.{fifoSize, emptied, usedUp}
+use Rattle.fifo.specs.Buffer.{fifoSize, emptied, usedUp, heldBytes}
 use Rattle.reports.specs.Reports.{frameReport, noDetails, rated, outOfRom}
 use Rattle.rates.specs.Rates.{prefixBits, skippedWith}
 use Rattle.rates.specs.Form.{Item, readItem, shortAt}
@@ -32,7 +32,7 @@ use Rattle.control.specs.Validity.{fifoValid, controlValid}
 use Rattle.control.proofs.Ranges.{control-ranges, mode-ranges, valid-fits}
 use Rattle.fifo.proofs.Held.{held-frame, held-cut}
 use Rattle.speech.specs.Types.{Mode, Idle, Rom, Waiting, External, Fifo, Clock, Control, Details, Report, NoReport, RanOut, Action, Silent, Begin, Moved}
-use Rattle.speech.specs.Advance.{within, changed, frameBegun, ranOut, fromRom, fifoOut, fromFifo, formOf, heldBytes, boundaryIn, advanced}
+use Rattle.speech.specs.Advance.{within, changed, frameBegun, ranOut, fromRom, fifoOut, fromFifo, formOf, boundaryIn, advanced}
 use Rattle.speech.specs.Laws.{FifoFrame, FifoEnds, RomEnds}
 
 -- a frame that begins, from what its calls give
@@ -87,17 +87,17 @@ module _ (P : ℕ) (image : List ℕ) (k : Control) where
   advanced-within s t r a e = rw (r, a, e) (sym (cond-true _ _ _ s ∙ cond-false _ _ _ t))
 
 module _ (P : ℕ) (k : Control) {r : Moved} where
-  module _ {i : Item} {next : ℕ} (e : whole i next ≡ readItem (formOf P k) (heldBytes k) (k .fifo .«used_bits»)) where
+  module _ {i : Item} {next : ℕ} (e : whole i next ≡ readItem (formOf P k) (heldBytes (k .fifo)) (k .fifo .«used_bits»)) where
     pub fifo-whole : (isStop (i .1) || ltb next (8 * k .fifo .level)) ≡ true → r ≡ frameBegun k i (k .address .position) (usedUp (k .fifo) next)
-        → r ≡ fromFifo k (readItem (formOf P k) (heldBytes k) (k .fifo .«used_bits»))
+        → r ≡ fromFifo k (readItem (formOf P k) (heldBytes (k .fifo)) (k .fifo .«used_bits»))
     fifo-whole t r = r ∙ sym (cond-true _ _ _ t) ∙ ap (fromFifo k) e
 
     pub fifo-ended : (isStop (i .1) || ltb next (8 * k .fifo .level)) ≡ false → r ≡ fifoOut k 0
-        → r ≡ fromFifo k (readItem (formOf P k) (heldBytes k) (k .fifo .«used_bits»))
+        → r ≡ fromFifo k (readItem (formOf P k) (heldBytes (k .fifo)) (k .fifo .«used_bits»))
     fifo-ended t r = r ∙ sym (cond-false _ _ _ t) ∙ ap (fromFifo k) e
 
-  pub fifo-cut : {h : Shortfall} → cut h ≡ readItem (formOf P k) (heldBytes k) (k .fifo .«used_bits») → r ≡ fifoOut k (h .missing)
-      → r ≡ fromFifo k (readItem (formOf P k) (heldBytes k) (k .fifo .«used_bits»))
+  pub fifo-cut : {h : Shortfall} → cut h ≡ readItem (formOf P k) (heldBytes (k .fifo)) (k .fifo .«used_bits») → r ≡ fifoOut k (h .missing)
+      → r ≡ fromFifo k (readItem (formOf P k) (heldBytes (k .fifo)) (k .fifo .«used_bits»))
   fifo-cut e r = r ∙ ap (fromFifo k) e
 
 -- the FIFO of external speech

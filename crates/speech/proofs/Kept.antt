@@ -20,7 +20,7 @@ use Rattle.address.specs.Addresses.{positionLimit, nibbles, movedTo}
 use Rattle.address.proofs.Ranges.{address-ranges, address-in-range}
 use Rattle.clock.specs.Counters.{clockValid, stopped, begun, counted, intervalBegins, frameBegins}
 use Rattle.clock.proofs.Ranges.{clock-ranges}
-use Rattle.fifo.specs.Buffer.{allZero, emptied, usedUp}
+use Rattle.fifo.specs.Buffer.{allZero, emptied, usedUp, heldBytes}
 use Rattle.fifo.proofs.Ranges.{fifo-in-range, zero-from}
 use Rattle.rates.specs.Rates.{skippedWith}
 use Rattle.rates.specs.Form.{Item, itemCode, readItem}
@@ -32,7 +32,7 @@ use Rattle.control.specs.Validity.{speaks, isIdle, fifoValid, portValid}
 use Rattle.control.specs.Status.{raisedPort}
 use Rattle.control.proofs.Ranges.{ControlRanges, mode-ranges}
 use Rattle.speech.specs.Types.{Mode, Idle, Rom, Waiting, External, Fifo, Port, Clock, Control, Details, NoReport, Action, Silent, Rest, Begin, Interpolate, Continue, Moved}
-use Rattle.speech.specs.Advance.{within, raises, changed, frameBegun, ranOut, fromRom, fromFifo, formOf, heldBytes, rested, boundaryIn, advanced}
+use Rattle.speech.specs.Advance.{within, raises, changed, frameBegun, ranOut, fromRom, fromFifo, formOf, rested, boundaryIn, advanced}
 
 -- ---- the FIFO with bits gone
 
@@ -139,12 +139,12 @@ module _ (P : ℕ) (image : List ℕ) (small : length image ≤ imageLimit) (k :
         begun-kept i next (k .fifo) (w .0 .1) (omega (arith, begins-room image (k .address .position) (itemCode (formOf P k) .bits i) (w .1), w .2)) (λ n. r .fifo)
     rom-kept m (cut h) a = out-kept _ (k .fifo) _ (omega (arith, address)) (subst (λ (m : Mode). fifoValid m (k .fifo) ≡ true) m (r .fifo))
 
-    fifo-kept : k .mode ≡ External → (x : ItemAnswer Item) → readItem (formOf P k) (heldBytes k) (k .fifo .«used_bits») ≡ x → Kept P k (fromFifo k x)
+    fifo-kept : k .mode ≡ External → (x : ItemAnswer Item) → readItem (formOf P k) (heldBytes (k .fifo)) (k .fifo .«used_bits») ≡ x → Kept P k (fromFifo k x)
     fifo-kept m (whole i next) a =
         let external = subst (λ (m : Mode). fifoValid m (k .fifo) ≡ true) m (r .fifo) in
         by-test (Kept P k) (isStop (i .1) || ltb next (8 * k .fifo .level))
         (λ t.
-        begun-kept i (k .address .position) (usedUp (k .fifo) next) (read-law (heldBytes k) (k .fifo .«used_bits») i next a .0 .1) (address .0)
+        begun-kept i (k .address .position) (usedUp (k .fifo) next) (read-law (heldBytes (k .fifo)) (k .fifo .«used_bits») i next a .0 .1) (address .0)
         (λ n. rw m (used-up-valid (k .fifo) next external (ltb-true _ _ (rw n at t)))))
         (λ t. out-kept (k .address .position) (emptied (k .fifo)) _ (address .0) refl)
     fifo-kept m (cut h) a = out-kept (k .address .position) (emptied (k .fifo)) _ (address .0) refl

@@ -4,12 +4,12 @@ use mathlib.Core.Bool.{Bool, not, cond, _&&_, _||_}
 use mathlib.Core.List.{List}
 use Prim.Native.Nat.{ℕ, _*_, _-_, max}
 use lib.Dec.{ltb}
-use lib.ListN.{length, take}
+use lib.ListN.{length}
 use Rattle.rom.specs.Frames.{isStop}
 use Rattle.rom.specs.Items.{ItemAnswer, whole, cut}
 use Rattle.address.specs.Addresses.{movedTo}
 use Rattle.clock.specs.Counters.{stopped, begun, counted, intervalBegins, frameBegins}
-use Rattle.fifo.specs.Buffer.{emptied, usedUp, bufferLow, bufferEmpty}
+use Rattle.fifo.specs.Buffer.{emptied, usedUp, bufferLow, bufferEmpty, heldBytes}
 use Rattle.rates.specs.Rates.{skippedWith}
 use Rattle.rates.specs.Form.{Form, rateForm, Item, readItem}
 use Rattle.reports.specs.Reports.{frameReport, noDetails, rated, outOfRom, outOfFifo}
@@ -66,10 +66,6 @@ fromFifo k (cut h) = fifoOut k (h .missing)
 abbrev pub formOf : ℕ → Control → Form
 formOf P k = rateForm (rateOf (k .device)) P
 
--- the bytes that the FIFO holds
-abbrev pub heldBytes : Control → List ℕ
-heldBytes k = take (k .fifo .level) (k .fifo .bytes)
-
 -- a frame boundary in idle or waiting puts the sound to rest
 abbrev pub rested : Control → Moved
 rested k = record { control = withClock (stopped (k .clock)) k; action = Rest; report = NoReport; details = noDetails }
@@ -79,7 +75,7 @@ abbrev pub boundaryIn : ℕ → Mode → List ℕ → Control → Moved
 boundaryIn P Idle image k = rested k
 boundaryIn P Rom image k = fromRom image k (readItem (formOf P k) image (k .address .position))
 boundaryIn P Waiting image k = rested k
-boundaryIn P External image k = fromFifo k (readItem (formOf P k) (heldBytes k) (k .fifo .«used_bits»))
+boundaryIn P External image k = fromFifo k (readItem (formOf P k) (heldBytes (k .fifo)) (k .fifo .«used_bits»))
 
 -- within a frame the sound is interpolated at an interval's first sample
 abbrev pub within : Clock → Action

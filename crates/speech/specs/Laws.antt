@@ -6,12 +6,12 @@ use mathlib.Core.List.{List, IsPrefix}
 use Prim.Native.Nat.{ℕ, _+_}
 use lib.ListN.{length}
 use Rattle.rom.specs.Items.{whole, cut}
-use Rattle.fifo.specs.Buffer.{heldBits}
+use Rattle.fifo.specs.Buffer.{heldBits, heldBytes}
 use Rattle.rates.specs.Form.{Item, itemCode, shortAt}
 use Rattle.reports.specs.Reports.{outOfRom}
 use Rattle.control.specs.Validity.{fifoValid}
 use Rattle.speech.specs.Types.{External, Control, RanOut}
-use Rattle.speech.specs.Advance.{formOf, fromFifo, heldBytes, boundaryIn, advanced}
+use Rattle.speech.specs.Advance.{formOf, fromFifo, boundaryIn, advanced}
 
 -- the item, its rate bits and frame, is proper and the bits held begin with its bits
 abbrev pub HeldFirst : ℕ → Control → Item → Type 0
@@ -27,7 +27,7 @@ FifoFrame =
 abbrev pub FifoEnds : Type 0
 FifoEnds =
     (P : ℕ) (image : List ℕ) (k : Control) → fifoValid External (k .fifo) ≡ true
-    → ((i : Item) → HeldFirst P k i → ⊥) → boundaryIn P External image k ≡ fromFifo k (cut (shortAt (formOf P k) (heldBytes k) (k .fifo .«used_bits»)))
+    → ((i : Item) → HeldFirst P k i → ⊥) → boundaryIn P External image k ≡ fromFifo k (cut (shortAt (formOf P k) (heldBytes (k .fifo)) (k .fifo .«used_bits»)))
 
 -- Where a step runs out, but not in external speech, it tells how short the image is of the frame at the position (02, §4)
 abbrev pub RomEnds : Type 0

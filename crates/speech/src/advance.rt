@@ -7,10 +7,10 @@ ghost use lib.ListN.{length};
 ghost use Rattle.rom.specs.Bits.{imageLimit};
 ghost use Rattle.address.specs.Addresses.{positionLimit};
 ghost use Rattle.clock.specs.Counters.{lastSample};
-ghost use Rattle.fifo.specs.Buffer.{fifoSize};
+ghost use Rattle.fifo.specs.Buffer.{fifoSize, heldBytes};
 ghost use Rattle.rates.specs.Form.{readItem};
 ghost use Rattle.control.specs.Validity.{controlValid};
-ghost use Rattle.speech.specs.Advance.{raises, changed, frameBegun, ranOut, fromRom, fifoOut, fromFifo, formOf, heldBytes, rested, boundaryIn, within, advanced};
+ghost use Rattle.speech.specs.Advance.{raises, changed, frameBegun, ranOut, fromRom, fifoOut, fromFifo, formOf, rested, boundaryIn, within, advanced};
 use clock::Clock;
 use control::state::Control;
 use control::state::Mode;
@@ -154,11 +154,11 @@ fn from_fifo(control: Control, pitch_bits: usize) -> Moved
         × (control .fifo .level ≤ fifoSize)
         × (control .fifo .«used_bits» ≤ 7)
         × (control .clock .sample .0 ≤ lastSample) ⌝ }
-    ensures { λ r. ⌜ r ≡ fromFifo control (readItem (formOf «pitch_bits» control) (heldBytes control) (control .fifo .«used_bits»)) ⌝ }
+    ensures { λ r. ⌜ r ≡ fromFifo control (readItem (formOf «pitch_bits» control) (heldBytes (control .fifo)) (control .fifo .«used_bits»)) ⌝ }
 {
     let position = control.address.position;
     let held = control.fifo;
-    let bytes = held.bytes;
+    let bytes = held.read_bytes();
     let level = held.level as usize;
     let used = held.used_bits as usize;
     let device = control.device;
