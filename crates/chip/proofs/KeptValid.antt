@@ -35,7 +35,7 @@ use Rattle.chip.proofs.Stepping.{Passed, passed, no-fault}
 
 pub power-up-valid : PowerUpValid
 unfolding valid controlValid soundValid atRest
-power-up-valid = (refl, refl)
+power-up-valid o = (refl, refl)
 
 -- ---- a byte written
 

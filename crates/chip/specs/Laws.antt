@@ -8,17 +8,17 @@ use lib.Dec.{eqb}
 use Rattle.base.specs.Refusals.{TAKEN}
 use Rattle.control.specs.Device.{SameKind}
 use Rattle.control.specs.Status.{busByte}
-use Rattle.chip.specs.Types.{Chip, Stepped}
-use Rattle.chip.specs.State.{powerUp, powerUp5220C}
+use Rattle.chip.specs.Types.{BitOrder, Chip, Stepped}
+use Rattle.chip.specs.State.{powerUpWith, powerUp5220CWith}
 use Rattle.chip.specs.Validity.{valid}
 use Rattle.chip.specs.Write.{writeOf}
 use Rattle.chip.specs.Read.{lookOf, acknowledgeOf, readOf}
 use Rattle.chip.specs.Step.{stepTaken, stepOf}
 use Rattle.chip.specs.Run.{runOf}
 
--- The power-up states are valid.
+-- The power-up states are valid, in either order of the FIFO's bits.
 abbrev pub PowerUpValid : Type 0
-PowerUpValid = (valid powerUp ≡ true) × (valid powerUp5220C ≡ true)
+PowerUpValid = (o : BitOrder) → (valid (powerUpWith o) ≡ true) × (valid (powerUp5220CWith o) ≡ true)
 
 -- A valid chip stays valid under every written byte, taken or refused.
 abbrev pub WriteKeepsValid : Type 0

@@ -1,5 +1,7 @@
 -- The declared types of the source and of the crates below it, by short names.
 pub use Rattle.clock.specs.declared.Clock.{Clock}
+pub use Rattle.fifo.specs.declared.BitOrder.{BitOrder}
+pub use Rattle.fifo.specs.declared.BitOrder.the-variants.{LeastFirst, MostFirst}
 pub use Rattle.reports.specs.declared.Action.{Action}
 pub use Rattle.reports.specs.declared.Action.the-variants.{Silent, Rest, Begin, Interpolate, Continue}
 pub use Rattle.reports.specs.declared.Report.{Report}

@@ -1,11 +1,12 @@
 // The chip's value, its device numbers, and power-up.
 ghost use mathlib.Core.Path.{_≡_};
-ghost use Rattle.chip.specs.State.{powerUpOf, powerUp, powerUp5220C, deviceNumbers};
+ghost use Rattle.chip.specs.State.{powerUpOf, powerUp, powerUpWith, powerUp5220C, powerUp5220CWith, deviceNumbers};
 use address::AddressRegister;
 use base::units::Frames;
 use base::units::Intervals;
 use control::device::Device;
 use control::state::Control;
+use fifo::BitOrder;
 use fifo::Fifo;
 use rates::rate::FrameRate;
 use sound::state::Sound;
@@ -52,24 +53,38 @@ impl Chip {
 
     pub const INTERVALS_PER_FRAME: u64 = Frames::INTERVALS;
 
-    // Operation: power-up of a TMS5220 or TMS5200.
+    // Operation: power-up of a TMS5220 or TMS5200. The FIFO's bits leave each byte least significant first.
     pub fn power_up() -> Chip
         ensures { λ r. ⌜ r ≡ powerUp ⌝ }
     {
-        Chip::power_up_of(Device::Tms5220)
+        Chip::power_up_with(BitOrder::LeastFirst)
     }
 
-    // Operation: power-up of a TMS5220C.
+    // Operation: the same with an order of the FIFO's bits.
+    pub fn power_up_with(order: BitOrder) -> Chip
+        ensures { λ r. ⌜ r ≡ powerUpWith order ⌝ }
+    {
+        Chip::power_up_of(Device::Tms5220, order)
+    }
+
+    // Operation: power-up of a TMS5220C. The FIFO's bits leave each byte least significant first.
     pub fn power_up_5220c() -> Chip
         ensures { λ r. ⌜ r ≡ powerUp5220C ⌝ }
     {
-        Chip::power_up_of(Device::Tms5220C(FrameRate::power_up()))
+        Chip::power_up_5220c_with(BitOrder::LeastFirst)
     }
 
-    fn power_up_of(device: Device) -> Chip
-        ensures { λ r. ⌜ r ≡ powerUpOf device ⌝ }
+    // Operation: the same with an order of the FIFO's bits.
+    pub fn power_up_5220c_with(order: BitOrder) -> Chip
+        ensures { λ r. ⌜ r ≡ powerUp5220CWith order ⌝ }
     {
-        let control = Control::power_up(device);
+        Chip::power_up_of(Device::Tms5220C(FrameRate::power_up()), order)
+    }
+
+    fn power_up_of(device: Device, order: BitOrder) -> Chip
+        ensures { λ r. ⌜ r ≡ powerUpOf device order ⌝ }
+    {
+        let control = Control::power_up(device, order);
         let sound = Sound::at_rest();
         Chip { control, sound }
     }
