@@ -27,14 +27,14 @@ ends-past image a {fs} p n h =
 
 pub demand-3 : Demand3
 demand-3 image a i inside =
-    let opens = opening image a i inside Tms5220 refl [] [] tt tt in
+    let opens = opening image a i inside Tms5220 refl in
     record {
       accepts = let w = walk-accepts pitchBits image a in (λ h. w .0 h .1, λ p. w .1 (i, p));
       counts = λ fs p. walk-counts pitchBits image a fs i p;
       one-phrase = phrase-unique pitchBits image a;
       frames-exist = (framesAt pitchBits image a, frames-read pitchBits image a _ inside .1 refl);
       frames-unique = λ fs gs p q. sym (frames-read pitchBits image a fs inside .0 p) ∙ frames-read pitchBits image a gs inside .0 q;
-      opened = λ l s. ap₂ (λ (ns : List ℕ) (n : ℕ). ns ++ (n ∷ [])) (opens l .0) (core image a i inside powerUpRate _ (opens l .1) s .0);
-      calls = λ l s fs there. core image a i inside powerUpRate _ (opens l .1) s .1 (map plain fs) (plain-there pitchBits image a fs there);
+      opened = λ o l s. ap₂ (λ (ns : List ℕ) (n : ℕ). ns ++ (n ∷ [])) (opens o [] [] tt tt l .0) (core image a i inside powerUpRate _ (opens o [] [] tt tt l .1) s .0);
+      calls = λ o l s fs there. core image a i inside powerUpRate _ (opens o [] [] tt tt l .1) s .1 (map plain fs) (plain-there pitchBits image a fs there);
       same-end = λ fs p n h. ends-past image a p n h ∙ ap (λ (w : Walked). 8 * a + w .bits) (sym (walk-counts pitchBits image a fs i p));
     }

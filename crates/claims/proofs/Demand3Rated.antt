@@ -14,7 +14,7 @@ use Rattle.schedule.proofs.Due.{just-after}
 use Rattle.control.specs.Device.{deviceValid, rateOf}
 use Rattle.control.specs.declared.device.Device.{Device}
 use Rattle.control.specs.declared.device.Device.the-variants.{Tms5220, Tms5220C}
-use Rattle.chip.specs.State.{powerUp5220C}
+use Rattle.chip.specs.State.{powerUp5220CWith}
 use Rattle.claims.specs.Device.{ratedForm}
 use Rattle.claims.specs.Answers.{AnswersDue}
 use Rattle.claims.specs.Opening.{deviceAfter, openingBytes}
@@ -35,7 +35,7 @@ pub demand-3-rated : Demand3Rated
 demand-3-rated image a i inside ls ms rs ts =
     let r = rateAfter (ls ++ ms) in
     let valid = rate-after-valid (ls ++ ms) in
-    let opens = opening image a i inside (Tms5220C powerUpRate) refl ls ms rs ts in
+    let opens = opening image a i inside (Tms5220C powerUpRate) refl in
     let speaks = core image a i inside r in
     record {
       accepts = let w = rated-accepts pitchBits r image a in (λ h. w .0 h .2, λ p. w .1 (i, valid, p));
@@ -43,8 +43,9 @@ demand-3-rated image a i inside ls ms rs ts =
       one-phrase = rated-unique pitchBits r image a;
       items-exist = (itemsAt (ratedForm r) image a, rated-there pitchBits r image a _ inside .1 refl);
       items-unique = λ is js p q. sym (rated-there pitchBits r image a is inside .0 p) ∙ rated-there pitchBits r image a js inside .0 q;
-      opened = λ l s. refusals-more image powerUp5220C (openingBytes ls l ms) (s .byte) (opens l .0) (speaks _ (opens l .1) s .0);
-      calls = λ l s is there. subst (AnswersDue (ratedForm r) image a is) (sym (after-more image powerUp5220C (openingBytes ls l ms) (s .byte))) (speaks _ (opens l .1) s .1 is there);
+      opened = λ o l s. refusals-more image (powerUp5220CWith o) (openingBytes ls l ms) (s .byte) (opens o ls ms rs ts l .0) (speaks _ (opens o ls ms rs ts l .1) s .0);
+      calls = λ o l s is there.
+          subst (AnswersDue (ratedForm r) image a is) (sym (after-more image (powerUp5220CWith o) (openingBytes ls l ms) (s .byte))) (speaks _ (opens o ls ms rs ts l .1) s .1 is there);
       same-end = λ is p n h.
           just-after (ratedForm r) (8 * a) (8 * length image) is (p .ended) n h ∙ ap (λ (w : Walked). 8 * a + w .bits) (sym (rated-counts pitchBits r image a is i valid p));
     }

@@ -16,6 +16,7 @@ use Rattle.schedule.specs.Schedule.{dueFrom, endFrom, toldFrom}
 use Rattle.schedule.specs.Calls
 use Rattle.voice.specs.Layout.{twosComplement}
 use Rattle.voice.specs.Check.{entriesValid, voiceFault}
+use Rattle.fifo.specs.declared.BitOrder.the-variants.{LeastFirst}
 use Rattle.claims.specs.Demand3.{answersDue, WritesRefused}
 use Rattle.claims.specs.Example.{voice, loads, speak, Example, phrase, noPhrase, Holds}
 use Rattle.claims.proofs.Demand3.{demand-3}
@@ -29,7 +30,7 @@ holds e i inside f g h =
       there = there;
       refused = g;
       due = h;
-      given = demand-3 (e .image) 0 i inside .calls loads speak (e .frames) there (e .calls) g ∙ h;
+      given = demand-3 (e .image) 0 i inside .calls LeastFirst loads speak (e .frames) there (e .calls) g ∙ h;
     }
 
 pub phrase-holds : Holds phrase

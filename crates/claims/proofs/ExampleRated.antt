@@ -16,6 +16,7 @@ use Rattle.schedule.specs.Schedule.{dueFrom, endFrom, toldFrom}
 use Rattle.schedule.specs.Calls
 use Rattle.voice.specs.Layout.{twosComplement}
 use Rattle.voice.specs.Check.{entriesValid, voiceFault}
+use Rattle.fifo.specs.declared.BitOrder.the-variants.{LeastFirst}
 use Rattle.claims.specs.Device.{ratedForm}
 use Rattle.claims.specs.Answers.{answersDue, WritesRefused}
 use Rattle.claims.specs.Opening.{RateBytes}
@@ -34,7 +35,7 @@ holds e i inside ls ms f g h =
       there = there;
       refused = g;
       due = h;
-      given = demand-3-rated (e .image) 0 i inside (e .before) (e .after) ls ms .calls loads speak (e .items) there (e .calls) g ∙ h;
+      given = demand-3-rated (e .image) 0 i inside (e .before) (e .after) ls ms .calls LeastFirst loads speak (e .items) there (e .calls) g ∙ h;
     }
 
 pub variable-holds : RatedHolds variable

@@ -21,6 +21,7 @@ use Rattle.control.specs.Device.{rateOf, loadedRate, deviceValid}
 use Rattle.control.specs.declared.device.Device.{Device}
 use Rattle.control.proofs.Ranges.{loaded-device}
 use Rattle.control.specs.declared.commands.Command.the-variants.{LoadFrameRate, LoadAddress}
+use Rattle.fifo.specs.declared.BitOrder.{BitOrder}
 use Rattle.chip.specs.State.{powerUpOf}
 use Rattle.chip.specs.Validity.{valid}
 use Rattle.chip.specs.Write.{writeOf}
@@ -31,13 +32,13 @@ use Rattle.claims.specs.Demand3.{Loads, loadBytes}
 use Rattle.claims.specs.Opening.{RateBytes, deviceAfter, openingBytes, Ready, Opening}
 use Rattle.claims.proofs.Answers.{obeys}
 
--- a device's power-up, at another place
-abbrev placed : Device → ℕ → ℕ → Chip
-placed d p i = record { control = withAddress (record { position = p; «next_nibble» = i }) (powerUpControl d); sound = restSound }
+-- a device's power-up with an order of the FIFO's bits, at another place
+abbrev placed : BitOrder → Device → ℕ → ℕ → Chip
+placed q d p i = record { control = withAddress (record { position = p; «next_nibble» = i }) (powerUpControl d q); sound = restSound }
 
-placed-valid : (d : Device) (p i : ℕ) → deviceValid d ≡ true → p ≤ positionLimit → i < nibbles → valid (placed d p i) ≡ true
+placed-valid : (q : BitOrder) (d : Device) (p i : ℕ) → deviceValid d ≡ true → p ≤ positionLimit → i < nibbles → valid (placed q d p i) ≡ true
 unfolding valid controlValid soundValid atRest
-placed-valid d p i v l n = rw (le-leb p positionLimit l, lt-ltb i nibbles n, v)
+placed-valid q d p i v l n = rw (le-leb p positionLimit l, lt-ltb i nibbles n, v)
 
 -- ---- a nibble
 
@@ -53,35 +54,35 @@ nibble-above i x v h g l =
 fifth-above : (x v q : ℕ) → x < 65536 → v < 16 → v % 4 ≡ q → withNibble (8 * x / 8 % addressLimit) 4 v ≡ q * 65536 + x
 fifth-above x v q h g d = let e : 8 * x / 8 % addressLimit ≡ x = omega arith in rw e (omega arith)
 
-module _ (image : List ℕ) (i : imageValid image ≡ true) (d : Device) (v : deviceValid d ≡ true) (a : ℕ) where
+module _ (image : List ℕ) (i : imageValid image ≡ true) (q : BitOrder) (d : Device) (v : deviceValid d ≡ true) (a : ℕ) where
   loads-at : (p n b : ℕ) → p ≤ positionLimit → n < nibbles → commandOf b ≡ LoadAddress
-      → writeOf image (placed d p n) b ≡ record { chip = placed d (8 * withNibble (p / 8 % addressLimit) n (b % 16)) ((n + 1) % nibbles); refusal = 0 }
-  loads-at p n b h g e = obeys image (placed d p n) b LoadAddress i (placed-valid d p n v h g) refl e refl
+      → writeOf image (placed q d p n) b ≡ record { chip = placed q d (8 * withNibble (p / 8 % addressLimit) n (b % 16)) ((n + 1) % nibbles); refusal = 0 }
+  loads-at p n b h g e = obeys image (placed q d p n) b LoadAddress i (placed-valid q d p n v h g) refl e refl
 
   -- each of the first four loads
   loads : (n b : ℕ) → n ≤ 3 → 16 * 16 ^ n ≤ 65536 → 0 < 16 ^ n → commandOf b ≡ LoadAddress → b % 16 ≡ a / 16 ^ n % 16
-      → writeOf image (placed d (8 * (a % 16 ^ n)) n) b ≡ record { chip = placed d (8 * (a % (16 * 16 ^ n))) (n + 1); refusal = 0 }
+      → writeOf image (placed q d (8 * (a % 16 ^ n)) n) b ≡ record { chip = placed q d (8 * (a % (16 * 16 ^ n))) (n + 1); refusal = 0 }
   loads n b l w o e v′ =
       let low = mod-lt a o in
       let next : (n + 1) % nibbles ≡ n + 1 = omega arith in
       loads-at (8 * (a % 16 ^ n)) n b (omega arith) (omega arith) e
-      ∙ ap₂ (λ (x y : ℕ). record { chip = placed d (8 * x) y; refusal = 0 })
+      ∙ ap₂ (λ (x y : ℕ). record { chip = placed q d (8 * x) y; refusal = 0 })
       (ap (λ (x : ℕ). withNibble (8 * (a % 16 ^ n) / 8 % addressLimit) n x) v′
       ∙ nibble-above n (a % 16 ^ n) (a / 16 ^ n % 16) low (omega arith) w
       ∙ sym (mod-mul a {m = 16} {c = 16 ^ n} (omega arith) o))
       next
 
   loads-fifth : (b : ℕ) → a < addressLimit → commandOf b ≡ LoadAddress → b % 4 ≡ a / 65536 % 4
-      → writeOf image (placed d (8 * (a % 65536)) 4) b ≡ record { chip = placed d (8 * a) 0; refusal = 0 }
+      → writeOf image (placed q d (8 * (a % 65536)) 4) b ≡ record { chip = placed q d (8 * a) 0; refusal = 0 }
   loads-fifth b l e two =
       let low : b % 16 % 4 ≡ a / 65536 = omega arith in
       loads-at (8 * (a % 65536)) 4 b (omega arith) (omega arith) e
-      ∙ ap (λ (x : ℕ). record { chip = placed d (8 * x) 0; refusal = 0 }) (fifth-above (a % 65536) (b % 16) (a / 65536) (omega arith) (omega arith) low ∙ omega arith)
+      ∙ ap (λ (x : ℕ). record { chip = placed q d (8 * x) 0; refusal = 0 }) (fifth-above (a % 65536) (b % 16) (a / 65536) (omega arith) (omega arith) low ∙ omega arith)
 
   -- a Load Frame Rate byte, anywhere
   rate-at : (p n b : ℕ) → p ≤ positionLimit → n < nibbles → commandOf b ≡ LoadFrameRate
-      → writeOf image (placed d p n) b ≡ record { chip = placed (loadedRate d b) p n; refusal = 0 }
-  rate-at p n b h g e = obeys image (placed d p n) b LoadFrameRate i (placed-valid d p n v h g) refl e refl
+      → writeOf image (placed q d p n) b ≡ record { chip = placed q (loadedRate d b) p n; refusal = 0 }
+  rate-at p n b h g e = obeys image (placed q d p n) b LoadFrameRate i (placed-valid q d p n v h g) refl e refl
 
 -- ---- bytes that are taken one after another
 
@@ -113,28 +114,28 @@ pub after-valid : (d : Device) (bs : List ℕ) → deviceValid d ≡ true → de
 after-valid d [] v = v
 after-valid d (b ∷ bs) v = after-valid (loadedRate d b) bs (loaded-device d b)
 
-module _ (image : List ℕ) (i : imageValid image ≡ true) where
+module _ (image : List ℕ) (i : imageValid image ≡ true) (q : BitOrder) where
   rates-taken : (d : Device) (p : ℕ) (bs : List ℕ) → deviceValid d ≡ true → p ≤ positionLimit → RateBytes bs
-      → Taken image (placed d p 0) bs (placed (deviceAfter d bs) p 0)
+      → Taken image (placed q d p 0) bs (placed q (deviceAfter d bs) p 0)
   rates-taken d p [] v h r = done
   rates-taken d p (b ∷ bs) v h r =
-      then (rate-at image i d v 0 p 0 b h (omega arith) (r .0)) (rates-taken (loadedRate d b) p bs (loaded-device d b) h (r .1))
+      then (rate-at image i q d v 0 p 0 b h (omega arith) (r .0)) (rates-taken (loadedRate d b) p bs (loaded-device d b) h (r .1))
 
   loads-taken : (d : Device) → deviceValid d ≡ true → (a : ℕ) → a < addressLimit → (l : Loads a)
-      → Taken image (placed d 0 0) (loadBytes l) (placed d (8 * a) 0)
+      → Taken image (placed q d 0 0) (loadBytes l) (placed q d (8 * a) 0)
   loads-taken d v a small l =
       let none : a % 1 ≡ 0 = omega arith in
       let one : a / 1 % 16 ≡ a % 16 = omega arith in
       then
-      (subst (λ (x : ℕ). writeOf image (placed d (8 * x) 0) (l .byte0) ≡ record { chip = placed d (8 * (a % 16)) 1; refusal = 0 }) none
-      (loads image i d v a 0 (l .byte0) (omega arith) (omega arith) (omega arith) (l .load0 .0) (l .load0 .1 ∙ sym one)))
-      (then (loads image i d v a 1 (l .byte1) (omega arith) (omega arith) (omega arith) (l .load1 .0) (l .load1 .1))
-      (then (loads image i d v a 2 (l .byte2) (omega arith) (omega arith) (omega arith) (l .load2 .0) (l .load2 .1))
-      (then (loads image i d v a 3 (l .byte3) (omega arith) (omega arith) (omega arith) (l .load3 .0) (l .load3 .1))
-      (then (loads-fifth image i d v a (l .byte4) small (l .load4 .0) (l .load4 .1)) done))))
+      (subst (λ (x : ℕ). writeOf image (placed q d (8 * x) 0) (l .byte0) ≡ record { chip = placed q d (8 * (a % 16)) 1; refusal = 0 }) none
+      (loads image i q d v a 0 (l .byte0) (omega arith) (omega arith) (omega arith) (l .load0 .0) (l .load0 .1 ∙ sym one)))
+      (then (loads image i q d v a 1 (l .byte1) (omega arith) (omega arith) (omega arith) (l .load1 .0) (l .load1 .1))
+      (then (loads image i q d v a 2 (l .byte2) (omega arith) (omega arith) (omega arith) (l .load2 .0) (l .load2 .1))
+      (then (loads image i q d v a 3 (l .byte3) (omega arith) (omega arith) (omega arith) (l .load3 .0) (l .load3 .1))
+      (then (loads-fifth image i q d v a (l .byte4) small (l .load4 .0) (l .load4 .1)) done))))
 
 pub opening : Opening
-opening image a i inside d v ls ms rs ts l = (taken-numbers all, subst (Ready _ a) (sym (taken-chip all)) ready)
+opening image a i inside d v q ls ms rs ts l = (taken-numbers all, subst (Ready _ a) (sym (taken-chip all)) ready)
   where
     small : a < addressLimit
     small = omega (arith, valid-length image i .1)
@@ -145,14 +146,14 @@ opening image a i inside d v ls ms rs ts l = (taken-numbers all, subst (Ready _ 
     set-valid : deviceValid set ≡ true
     set-valid = after-valid d ls v
 
-    all : Taken image (powerUpOf d) (openingBytes ls l ms) (placed (deviceAfter set ms) (8 * a) 0)
+    all : Taken image (powerUpOf d q) (openingBytes ls l ms) (placed q (deviceAfter set ms) (8 * a) 0)
     all =
-        taken-both (rates-taken image i d 0 ls v (omega arith) rs)
-        (taken-both (loads-taken image i set set-valid a small l) (rates-taken image i set (8 * a) ms set-valid (omega (arith, small)) ts))
+        taken-both (rates-taken image i q d 0 ls v (omega arith) rs)
+        (taken-both (loads-taken image i q set set-valid a small l) (rates-taken image i q set (8 * a) ms set-valid (omega (arith, small)) ts))
 
-    ready : Ready (rateOf (deviceAfter d (ls ++ ms))) a (placed (deviceAfter set ms) (8 * a) 0)
+    ready : Ready (rateOf (deviceAfter d (ls ++ ms))) a (placed q (deviceAfter set ms) (8 * a) 0)
     ready = record {
-      is-valid = placed-valid (deviceAfter set ms) (8 * a) 0 (after-valid set ms set-valid) (omega (arith, small)) (omega arith);
+      is-valid = placed-valid q (deviceAfter set ms) (8 * a) 0 (after-valid set ms set-valid) (omega (arith, small)) (omega arith);
       is-idle = refl;
       no-data = refl;
       at-byte = refl;

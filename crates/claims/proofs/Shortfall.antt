@@ -32,7 +32,7 @@ use Rattle.schedule.proofs.Due.{out-behind}
 use Rattle.schedule.proofs.Answering.{stays-on-time}
 use Rattle.control.specs.declared.device.Device.the-variants.{Tms5220, Tms5220C}
 use Rattle.speech.proofs.Boundaries.{rom-ends}
-use Rattle.chip.specs.State.{powerUp5220C}
+use Rattle.chip.specs.State.{powerUp5220CWith}
 use Rattle.chip.specs.Step.{stepTaken}
 use Rattle.chip.specs.Write.{writeOf}
 use Rattle.chip.specs.declared.state.Chip.{Chip}
@@ -92,15 +92,15 @@ module _ (image : List ℕ) (a : ℕ) (i : imageValid image ≡ true) (inside : 
       runs-out _ (t .0) _ (t .1)
 
 pub same-shortfall : SameShortfall
-same-shortfall image a i inside l s fs there xs g =
-    let opens = opening image a i inside Tms5220 refl [] [] tt tt in
+same-shortfall image a i inside o l s fs there xs g =
+    let opens = opening image a i inside Tms5220 refl o [] [] tt tt in
     subst (RunsOutAs image _) (rated-plain pitchBits image a .walk)
     (runs-out-after image a i inside powerUpRate refl (map plain fs) (plain-there pitchBits image a fs there) _ (opens l .1) s xs g)
 
 pub same-shortfall-rated : SameShortfallRated
-same-shortfall-rated image a i inside ls ms rs ts l s is there xs g =
+same-shortfall-rated image a i inside ls ms rs ts o l s is there xs g =
     let r = rateAfter (ls ++ ms) in
-    let opens = opening image a i inside (Tms5220C powerUpRate) refl ls ms rs ts in
+    let opens = opening image a i inside (Tms5220C powerUpRate) refl o ls ms rs ts in
     subst (λ (c : Chip). RunsOutAs image (afterCalls image c xs) (ratedWalkOf pitchBits r image a))
-    (sym (after-more image powerUp5220C (openingBytes ls l ms) (s .byte)))
+    (sym (after-more image (powerUp5220CWith o) (openingBytes ls l ms) (s .byte)))
     (runs-out-after image a i inside r (rate-after-valid (ls ++ ms)) is there _ (opens l .1) s xs g)

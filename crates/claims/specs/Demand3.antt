@@ -17,7 +17,8 @@ use Rattle.schedule.specs.Schedule
 use Rattle.schedule.specs.Calls.{Call, Answer}
 use Rattle.control.specs.Commands.{commandOf}
 use Rattle.control.specs.declared.commands.Command.the-variants.{LoadAddress, Speak}
-use Rattle.chip.specs.State.{powerUp}
+use Rattle.fifo.specs.declared.BitOrder.{BitOrder}
+use Rattle.chip.specs.State.{powerUpWith}
 use Rattle.chip.specs.declared.state.Chip.{Chip}
 use Rattle.claims.specs.Writes.{afterBytes, refusalsOf}
 use Rattle.claims.specs.Device.{chipForm}
@@ -55,9 +56,9 @@ pub record SpeakByte : Type 0 where
   pub byte : ℕ
   pub speak : commandOf byte ≡ Speak
 
--- the chip after power-up, the five loads and Speak
-abbrev pub speaking : List ℕ → {a : ℕ} → Loads a → SpeakByte → Chip
-speaking image l s = afterBytes image powerUp (loadBytes l ++ (s .byte ∷ []))
+-- the chip after power-up with an order of the FIFO's bits, which the plain one has too (02, §9), the five loads and Speak
+abbrev pub speaking : List ℕ → BitOrder → {a : ℕ} → Loads a → SpeakByte → Chip
+speaking image o l s = afterBytes image (powerUpWith o) (loadBytes l ++ (s .byte ∷ []))
 
 -- ---- what is due of the frames fs at byte a
 
@@ -99,11 +100,12 @@ pub record AtAddress (image : List ℕ) (a : ℕ) : Type 0 where
   -- there are frames there, those of the phrase or of the longest list, and no others
   pub frames-exist : (fs : List Frame) × FramesThere pitchBits image a fs
   pub frames-unique : (fs gs : List Frame) → FramesThere pitchBits image a fs → FramesThere pitchBits image a gs → fs ≡ gs
-  -- a chip fresh from power-up takes the five loads and Speak
-  pub opened : (l : Loads a) (s : SpeakByte)
-      → refusalsOf image powerUp (loadBytes l ++ (s .byte ∷ [])) ≡ TAKEN ∷ TAKEN ∷ TAKEN ∷ TAKEN ∷ TAKEN ∷ TAKEN ∷ []
+  -- a chip fresh from power-up, plain or by an order, takes the five loads and Speak
+  pub opened : (o : BitOrder) (l : Loads a) (s : SpeakByte)
+      → refusalsOf image (powerUpWith o) (loadBytes l ++ (s .byte ∷ [])) ≡ TAKEN ∷ TAKEN ∷ TAKEN ∷ TAKEN ∷ TAKEN ∷ TAKEN ∷ []
   -- and then every list of calls gets the answers that are due
-  pub calls : (l : Loads a) (s : SpeakByte) (fs : List Frame) → FramesThere pitchBits image a fs → AnswersDue image a fs (speaking image l s)
+  pub calls : (o : BitOrder) (l : Loads a) (s : SpeakByte) (fs : List Frame) → FramesThere pitchBits image a fs
+      → AnswersDue image a fs (speaking image o l s)
   -- the walk and the chip find one and the same end: from the stop's step on the position is past as many bits as the walk reports
   pub same-end : (fs : List Frame) → PhraseAt pitchBits image a fs → (n : ℕ) → endStep fs ≤ n
       → positionDue image a fs n ≡ 8 * a + walkOf pitchBits image a .bits

@@ -18,7 +18,8 @@ use Rattle.rates.specs.declared.rate.FrameRate.{FrameRate}
 use Rattle.schedule.specs.Schedule.{endStep, totalBits}
 use Rattle.control.specs.Device.{rateOf}
 use Rattle.control.specs.declared.device.Device.the-variants.{Tms5220C}
-use Rattle.chip.specs.State.{powerUp5220C}
+use Rattle.fifo.specs.declared.BitOrder.{BitOrder}
+use Rattle.chip.specs.State.{powerUp5220CWith}
 use Rattle.chip.specs.declared.state.Chip.{Chip}
 use Rattle.claims.specs.Writes.{afterBytes, refusalsOf}
 use Rattle.claims.specs.Device.{ratedForm}
@@ -34,9 +35,9 @@ rateAfter bs = rateOf (deviceAfter (Tms5220C powerUpRate) bs)
 abbrev pub spokenBytes : List ℕ → {a : ℕ} → Loads a → List ℕ → SpeakByte → List ℕ
 spokenBytes ls l ms s = openingBytes ls l ms ++ (s .byte ∷ [])
 
--- the chip after power-up and them
-abbrev pub speakingRated : List ℕ → List ℕ → {a : ℕ} → Loads a → List ℕ → SpeakByte → Chip
-speakingRated image ls l ms s = afterBytes image powerUp5220C (spokenBytes ls l ms s)
+-- the chip after power-up with an order of the FIFO's bits, and them
+abbrev pub speakingRated : List ℕ → BitOrder → List ℕ → {a : ℕ} → Loads a → List ℕ → SpeakByte → Chip
+speakingRated image o ls l ms s = afterBytes image (powerUp5220CWith o) (spokenBytes ls l ms s)
 
 -- what is demanded of an image and a byte address in it, at the rate r that the bytes ls and ms leave
 pub record RatedAtAddress (image : List ℕ) (a : ℕ) (ls ms : List ℕ) (r : FrameRate) : Type 0 where
@@ -50,12 +51,12 @@ pub record RatedAtAddress (image : List ℕ) (a : ℕ) (ls ms : List ℕ) (r : F
   -- there are items there, those of the phrase or of the longest list, and no others
   pub items-exist : (is : List Item) × ItemsThere pitchBits r image a is
   pub items-unique : (is js : List Item) → ItemsThere pitchBits r image a is → ItemsThere pitchBits r image a js → is ≡ js
-  -- a chip fresh from power-up takes the bytes, Speak too
-  pub opened : (l : Loads a) (s : SpeakByte)
-      → refusalsOf image powerUp5220C (spokenBytes ls l ms s) ≡ map (λ (b : ℕ). TAKEN) (spokenBytes ls l ms s)
+  -- a chip fresh from power-up, plain or by an order, takes the bytes, Speak too
+  pub opened : (o : BitOrder) (l : Loads a) (s : SpeakByte)
+      → refusalsOf image (powerUp5220CWith o) (spokenBytes ls l ms s) ≡ map (λ (b : ℕ). TAKEN) (spokenBytes ls l ms s)
   -- and then every list of calls gets the answers that are due
-  pub calls : (l : Loads a) (s : SpeakByte) (is : List Item) → ItemsThere pitchBits r image a is
-      → AnswersDue (ratedForm r) image a is (speakingRated image ls l ms s)
+  pub calls : (o : BitOrder) (l : Loads a) (s : SpeakByte) (is : List Item) → ItemsThere pitchBits r image a is
+      → AnswersDue (ratedForm r) image a is (speakingRated image o ls l ms s)
   -- the walk and the chip find one and the same end: from the stop's step on the position is past as many bits as the walk reports
   pub same-end : (is : List Item) → RatedPhraseAt pitchBits r image a is → (n : ℕ) → endStep (ratedForm r) is ≤ n
       → positionDue (ratedForm r) image a is n ≡ 8 * a + ratedWalkOf pitchBits r image a .bits

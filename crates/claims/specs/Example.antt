@@ -13,6 +13,7 @@ use Rattle.reports.specs.declared.Report.the-variants.{Nothing as NoReport, Fra
 use Rattle.schedule.specs.Types.{tells}
 use Rattle.schedule.specs.Calls.{Call, step, run, read, write, Answer}
 use Rattle.claims.specs.Answers.{answersOf}
+use Rattle.fifo.specs.declared.BitOrder.the-variants.{LeastFirst}
 use Rattle.claims.specs.Demand3.{Loads, SpeakByte, speaking, answersDue, WritesRefused}
 
 -- a valid voice file: length 497, version 1; 15 energies and the first pitch 0, 63 pitches of 257, K values 0; one pulse, of 64
@@ -93,4 +94,4 @@ pub record Holds (e : Example) : Type 0 where
   pub there : FramesThere pitchBits (e .image) 0 (e .frames)
   pub refused : WritesRefused (e .image) 0 (e .frames) 0 (e .calls)
   pub due : answersDue (e .image) 0 (e .frames) 0 (e .calls) ≡ e .answers
-  pub given : answersOf (e .image) (speaking (e .image) loads speak) (e .calls) ≡ e .answers
+  pub given : answersOf (e .image) (speaking (e .image) LeastFirst loads speak) (e .calls) ≡ e .answers

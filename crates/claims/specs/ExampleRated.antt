@@ -14,6 +14,7 @@ use Rattle.schedule.specs.Types.{tellsRated}
 use Rattle.schedule.specs.Calls.{Call, step, run, read, write, Answer}
 use Rattle.claims.specs.Device.{ratedForm}
 use Rattle.claims.specs.Answers.{answersOf, answersDue, WritesRefused}
+use Rattle.fifo.specs.declared.BitOrder.the-variants.{LeastFirst}
 use Rattle.claims.specs.Demand3Rated.{rateAfter, speakingRated}
 use Rattle.claims.specs.Example.{voice, loads, speak}
 
@@ -81,4 +82,4 @@ pub record RatedHolds (e : RatedExample) : Type 0 where
   pub there : ItemsThere pitchBits (exampleRate e) (e .image) 0 (e .items)
   pub refused : WritesRefused (ratedForm (exampleRate e)) (e .image) 0 (e .items) 0 (e .calls)
   pub due : answersDue (ratedForm (exampleRate e)) (e .image) 0 (e .items) 0 (e .calls) ≡ e .answers
-  pub given : answersOf (e .image) (speakingRated (e .image) (e .before) loads (e .after) speak) (e .calls) ≡ e .answers
+  pub given : answersOf (e .image) (speakingRated (e .image) LeastFirst (e .before) loads (e .after) speak) (e .calls) ≡ e .answers

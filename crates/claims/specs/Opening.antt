@@ -16,6 +16,7 @@ use Rattle.control.specs.Device.{rateOf, loadedRate, deviceValid}
 use Rattle.control.specs.declared.device.Device.{Device}
 use Rattle.control.specs.declared.state.Mode.the-variants.{Idle}
 use Rattle.control.specs.declared.commands.Command.the-variants.{LoadFrameRate}
+use Rattle.fifo.specs.declared.BitOrder.{BitOrder}
 use Rattle.chip.specs.State.{powerUpOf}
 use Rattle.chip.specs.Validity.{valid}
 use Rattle.chip.specs.Write.{writeOf}
@@ -51,10 +52,10 @@ pub record Ready (r : FrameRate) (a : ℕ) (c : Chip) : Type 0 where
 -- The opening: power-up takes these bytes, and the chip is then ready at a.
 abbrev pub Opening : Type 0
 Opening =
-    (image : List ℕ) (a : ℕ) → imageValid image ≡ true → a < length image → (d : Device) → deviceValid d ≡ true
+    (image : List ℕ) (a : ℕ) → imageValid image ≡ true → a < length image → (d : Device) → deviceValid d ≡ true → (o : BitOrder)
     → (ls ms : List ℕ) → RateBytes ls → RateBytes ms → (l : Loads a)
-    → (refusalsOf image (powerUpOf d) (openingBytes ls l ms) ≡ map (λ (b : ℕ). TAKEN) (openingBytes ls l ms))
-    × Ready (rateOf (deviceAfter d (ls ++ ms))) a (afterBytes image (powerUpOf d) (openingBytes ls l ms))
+    → (refusalsOf image (powerUpOf d o) (openingBytes ls l ms) ≡ map (λ (b : ℕ). TAKEN) (openingBytes ls l ms))
+    × Ready (rateOf (deviceAfter d (ls ++ ms))) a (afterBytes image (powerUpOf d o) (openingBytes ls l ms))
 
 -- The core: a chip that is ready at a takes Speak, and then every list of calls gets the answers that are due.
 abbrev pub Core : Type 0

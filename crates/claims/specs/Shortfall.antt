@@ -17,6 +17,7 @@ use Rattle.rates.specs.Walks.{ratedWalkOf}
 use Rattle.rates.specs.Theorems.{ItemsThere}
 use Rattle.schedule.specs.Calls
 use Rattle.schedule.specs.Calls.{Call}
+use Rattle.fifo.specs.declared.BitOrder.{BitOrder}
 use Rattle.chip.specs.Step.{stepOf}
 use Rattle.chip.specs.declared.state.Chip.{Chip}
 use Rattle.claims.specs.Device.{ratedForm, chipOn}
@@ -39,15 +40,15 @@ RunsOutAs image c w =
 abbrev pub SameShortfall : Type 0
 SameShortfall =
     (image : List ℕ) (a : ℕ) → imageValid image ≡ true → a < length image
-    → (l : Loads a) (s : SpeakByte) (fs : List Frame) → FramesThere pitchBits image a fs
+    → (o : BitOrder) (l : Loads a) (s : SpeakByte) (fs : List Frame) → FramesThere pitchBits image a fs
     → (xs : List Call) → WritesRefused image a fs 0 xs
-    → RunsOutAs image (afterCalls image (speaking image l s) xs) (walkOf pitchBits image a)
+    → RunsOutAs image (afterCalls image (speaking image o l s) xs) (walkOf pitchBits image a)
 
 -- And for the TMS5220C, with Load Frame Rate bytes before and after the loads.
 abbrev pub SameShortfallRated : Type 0
 SameShortfallRated =
     (image : List ℕ) (a : ℕ) → imageValid image ≡ true → a < length image → (ls ms : List ℕ) → RateBytes ls → RateBytes ms
     → let r = rateAfter (ls ++ ms) in
-    (l : Loads a) (s : SpeakByte) (is : List Item) → ItemsThere pitchBits r image a is
+    (o : BitOrder) (l : Loads a) (s : SpeakByte) (is : List Item) → ItemsThere pitchBits r image a is
     → (xs : List Call) → Answers.WritesRefused (ratedForm r) image a is 0 xs
-    → RunsOutAs image (afterCalls image (speakingRated image ls l ms s) xs) (ratedWalkOf pitchBits r image a)
+    → RunsOutAs image (afterCalls image (speakingRated image o ls l ms s) xs) (ratedWalkOf pitchBits r image a)
