@@ -31,9 +31,13 @@ uint8_t tms_speak_5220c(const uint8_t *image, size_t image_length, const uint8_t
 uint8_t tms_speak_by_steps(const uint8_t *image, size_t image_length, const uint8_t *voice, size_t voice_length, size_t address,
                            int16_t *out, size_t out_length);
 
-/* Power-up, Speak External, and turns of 100 samples, before each of which the FIFO takes as many bytes as it has room for.
-   Elements behind the last whole turn are as they were. */
+/* Power-up, Speak External, and turns of 100 samples, before each of which the FIFO takes as many bytes as it has room for. The
+   bits of a byte are spoken least significant first. Elements behind the last whole turn are as they were. */
 uint8_t tms_speak_external(const uint8_t *image, size_t image_length, const uint8_t *voice, size_t voice_length,
                            const uint8_t *bytes, size_t bytes_length, int16_t *out, size_t out_length);
+
+/* The same, most significant bit first. */
+uint8_t tms_speak_external_most_first(const uint8_t *image, size_t image_length, const uint8_t *voice, size_t voice_length,
+                                      const uint8_t *bytes, size_t bytes_length, int16_t *out, size_t out_length);
 
 #endif

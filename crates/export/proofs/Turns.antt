@@ -85,26 +85,26 @@ module _ (image voice bytes : List ℕ) where
           let none : 0 ≡ turns (length out₀ - i) = omega arith in
           (rw (← none) at (h .fault), sym (take-append-drop i out) ∙ (rw (← none) at (h .written)))
 
-  module _ (out : List ℤ) {w : Written} (e : w ≡ external image voice bytes) where
-    number : w .refusal ≡ external image voice bytes .refusal
+  module _ (fresh : Chip) (out : List ℤ) {w : Written} (e : w ≡ external image voice bytes fresh) where
+    number : w .refusal ≡ external image voice bytes fresh .refusal
     number = ap (λ (w : Written). w .refusal) e
 
     pub external-refused : (w .refusal ≡ 0 → ⊥)
-        → (w .refusal ≡ externalFault image voice bytes (length out)) × (out ≡ externalInto image voice bytes out)
+        → (w .refusal ≡ externalFault image voice bytes fresh (length out)) × (out ≡ externalInto image voice bytes fresh out)
     unfolding externalFault externalInto
     external-refused = begin-refused out number _ _
 
     module _ {k : ℕ} (v : k ≡ voiceFault pitchBits version voice) (h : w .refusal ≡ 0) where
-      pub voice-refused : (k ≡ 0 → ⊥) → (k ≡ externalFault image voice bytes (length out)) × (out ≡ externalInto image voice bytes out)
+      pub voice-refused : (k ≡ 0 → ⊥) → (k ≡ externalFault image voice bytes fresh (length out)) × (out ≡ externalInto image voice bytes fresh out)
       unfolding externalFault externalInto
       voice-refused r = let v = begin-refused out v _ _ r in begin-taken out number _ _ h (v .0) (v .1)
 
       pub external-fed : {n : ℕ} {new : List ℤ} → k ≡ 0
           → n ≡ fedFault image voice bytes (turns (length out)) (record { chip = w .chip; refusal = w .refusal; next = 0 })
           → new ≡ fedInto image voice bytes (turns (length out)) (record { chip = w .chip; refusal = w .refusal; next = 0 }) out
-          → (n ≡ externalFault image voice bytes (length out)) × (new ≡ externalInto image voice bytes out)
+          → (n ≡ externalFault image voice bytes fresh (length out)) × (new ≡ externalInto image voice bytes fresh out)
       unfolding externalFault externalInto
       external-fed r n new =
-          let from : record { chip = w .chip; refusal = w .refusal; next = 0 } ≡ started image voice bytes = rw (h, e) in
+          let from : record { chip = w .chip; refusal = w .refusal; next = 0 } ≡ started image voice bytes fresh = rw (h, e) in
           let f = begin-taken out v _ _ r (rw from at n) (rw from at new) in
           begin-taken out number _ _ h (f .0) (f .1)

@@ -6,9 +6,9 @@ use lib.ListN.{length, take, drop}
 use Rattle.base.specs.Refusals.{TAKEN, unlessFault}
 use Rattle.rom.specs.Frames.{pitchBits}
 use Rattle.voice.specs.Check.{voiceFault, version}
-use Rattle.chip.specs.State.{powerUp}
 use Rattle.chip.specs.Write.{writeOf}
 use Rattle.chip.specs.Run.{runOf, bufferOf}
+use Rattle.chip.specs.declared.state.Chip.{Chip}
 use Rattle.chip.specs.declared.write.Written.{Written}
 use Rattle.export.specs.Types.{Given, Fed}
 use Rattle.export.specs.Giving.{given}
@@ -46,21 +46,23 @@ module _ (image voice bytes : List ℕ) where
   fedInto zero s out = out
   fedInto (suc n) s out = turned s (take turn out) ++ fedInto n (turnOf turn s) (drop turn out)
 
-  -- Speak External, given to a chip fresh from power-up
-  abbrev pub external : Written
-  external = writeOf image powerUp 0x60
+  -- on a chip fresh from power-up
+  module _ (fresh : Chip) where
+    -- it is given Speak External
+    abbrev pub external : Written
+    external = writeOf image fresh 0x60
 
-  -- where the feeding starts
-  abbrev pub started : Fed
-  started = record { chip = external .chip; refusal = TAKEN; next = 0 }
+    -- where the feeding starts
+    abbrev pub started : Fed
+    started = record { chip = external .chip; refusal = TAKEN; next = 0 }
 
-  -- the number of the refused Speak External, of the voice file, or of the last run
-  unfoldable pub externalFault : ℕ → ℕ
-  externalFault n =
-      unlessFault (external .refusal) (λ r. r) (unlessFault (voiceFault pitchBits version voice) (λ r. r) (fedFault (turns n) started))
+    -- the number of the refused Speak External, of the voice file, or of the last run
+    unfoldable pub externalFault : ℕ → ℕ
+    externalFault n =
+        unlessFault (external .refusal) (λ r. r) (unlessFault (voiceFault pitchBits version voice) (λ r. r) (fedFault (turns n) started))
 
-  -- what the turns leave in the buffer
-  unfoldable pub externalInto : List ℤ → List ℤ
-  externalInto out =
-      unlessFault (external .refusal) (λ r. out)
-      (unlessFault (voiceFault pitchBits version voice) (λ r. out) (fedInto (turns (length out)) started out))
+    -- what the turns leave in the buffer
+    unfoldable pub externalInto : List ℤ → List ℤ
+    externalInto out =
+        unlessFault (external .refusal) (λ r. out)
+        (unlessFault (voiceFault pitchBits version voice) (λ r. out) (fedInto (turns (length out)) started out))
