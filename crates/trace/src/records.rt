@@ -6,6 +6,7 @@ use base::bytes::byte_at;
 use base::refusal::TAKEN;
 use chip::read::ByteRead;
 use chip::state::Chip;
+use fifo::BitOrder;
 use rates::rate::FrameRate;
 use trace_lines::lines::UNTOUCHED;
 use trace_lines::lines::chip_line;
@@ -214,6 +215,25 @@ fn tell_rated_walk(script: &[u8], at: usize, parts: Parts, out: &mut [u8], used:
     rated_walk_line(out, used, image, le32(script, at + 2), rate)
 }
 
+// `O`: power-up of a device with an order of the FIFO's bits; 1 is the TMS5220C, and most significant first.
+fn power_up(script: &[u8], at: usize, out: &mut [u8], used: usize) -> Played
+    requires { ⌜ at ≤ limit ⌝ }
+    ensures { λ r. ⌜ r .used ≤ length (now (out .entry)) ⌝ }
+{
+    let order = order_of(byte_at(script, at + 1));
+    match byte_at(script, at) {
+        0 => answer(b'O', TAKEN, Chip::power_up_with(order), out, used),
+        _ => answer(b'O', TAKEN, Chip::power_up_5220c_with(order), out, used),
+    }
+}
+
+fn order_of(number: u8) -> BitOrder {
+    match number {
+        0 => BitOrder::LeastFirst,
+        _ => BitOrder::MostFirst,
+    }
+}
+
 // Plays the record that begins with byte `at`. A record has been seen to be whole before.
 pub fn play(
     script: &[u8],
@@ -230,6 +250,7 @@ pub fn play(
     match byte_at(script, at) {
         b'P' => answer(b'P', TAKEN, Chip::power_up(), out, used),
         b'Q' => answer(b'Q', TAKEN, Chip::power_up_5220c(), out, used),
+        b'O' => power_up(script, body, out, used),
         b'S' => set(script, body, out, used),
         b'W' => write(script, body, parts, chip, out, used),
         b'R' => answer_byte(b'R', chip.read(), out, used),

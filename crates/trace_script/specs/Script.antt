@@ -1,7 +1,7 @@
 -- Scripts: their records, and the numbers in these.
 use mathlib.Core.Bool.{cond, _&&_, _||_}
 use mathlib.Core.List.{List, []}
-use Prim.Native.Nat.{ℕ, suc, _+_, _*_, _-_, _^_}
+use Prim.Native.Nat.{ℕ, suc, _+_, _*_, _-_, _/_, _%_, _^_}
 use lib.Dec.{eqb, leb, ltb}
 use lib.IntN.{ℤ, pos, negsuc}
 use lib.ListN.{length, take, drop}
@@ -21,7 +21,7 @@ runLimit = 8192
 
 -- how many numbers a chip's state has
 abbrev pub stateLength : ℕ
-stateLength = 67
+stateLength = 68
 
 -- the u32 from byte i on, little-endian
 unfoldable pub le32 : List ℕ → ℕ → ℕ
@@ -41,7 +41,7 @@ partOf s from end = cond (leb from end && leb end (length s)) (take (end - from)
 
 -- What follows a letter, of which `count` is the first u32: nothing after P, Q, R, L, K and T; a byte after W; a u32 after F, A and U,
 -- of which U's is at most `runLimit`; v and a u32 after G; v, rr and a u32 after B; a state's i64 after S; a u32 and that many bytes
--- after I and V. No other letter begins a record.
+-- after I and V; a device and an order, each 0 or 1, after O. No other letter begins a record.
 unfoldable pub bodyOf : ℕ → ℕ → Body
 bodyOf letter count =
     cond (eqb letter 80 || eqb letter 81 || eqb letter 82 || eqb letter 76 || eqb letter 75 || eqb letter 84) (Bytes 0)
@@ -51,7 +51,8 @@ bodyOf letter count =
     (cond (eqb letter 66) (Bytes 6)
     (cond (eqb letter 83) (Bytes (8 * stateLength))
     (cond (eqb letter 73 || eqb letter 86) (Bytes (4 + count))
-    None))))))
+    (cond (eqb letter 79 && leb (count % 256) 1 && leb (count / 256 % 256) 1) (Bytes 2)
+    None)))))))
 
 -- the record with this body from byte `start` on, in a script of n bytes
 abbrev pub recordOf : ℕ → ℕ → Body → Record

@@ -12,7 +12,7 @@ pub const LIMIT: usize = 1048576;
 pub const RUN_LIMIT: usize = 8192;
 
 // How many numbers a chip's state has, in a record and in a line. Later ones are added at the end.
-pub const STATE_LENGTH: usize = 67;
+pub const STATE_LENGTH: usize = 68;
 
 // The u32 from byte `at` on, little-endian. That it is below 2^32 follows from the bytes, of which the definition says no range.
 pub fn le32(script: &[u8], at: usize) -> usize
@@ -104,6 +104,9 @@ fn body_of(letter: u8, count: usize) -> Body
     }
     if (letter == b'I') | (letter == b'V') {
         return Body::Bytes(4 + count);
+    }
+    if (letter == b'O') & (count % 256 <= 1) & (count / 256 % 256 <= 1) {
+        return Body::Bytes(2);
     }
     Body::None
 }

@@ -9,8 +9,8 @@ use lib.IntN.{ℤ, pos}
 use lib.ListN.{take, drop, length-map}
 use lib.Seq.{take-at, drop-drop, getD-drop}
 use Rattle.control.specs.Device.{rateOf}
-use Rattle.trace_state.specs.Types.{Clock, Device, Tms5220, Tms5220C, Params, Chip}
-use Rattle.trace_state.specs.Numbers.{wide, natural, kindNumber, flagOf}
+use Rattle.trace_state.specs.Types.{BitOrder, LeastFirst, MostFirst, Clock, Device, Tms5220, Tms5220C, Params, Chip}
+use Rattle.trace_state.specs.Numbers.{wide, natural, kindNumber, orderNumber, flagOf, orderOf}
 use Rattle.trace_state.specs.Fields.{laterNumbers, paramNumbers, stateNumbers, nth, addressOf, fifoOf, portOf, clockOf, deviceOf, paramsOf, soundOf, chipOf}
 use Rattle.trace_state.specs.Laws.{StateLength, ParamsInFormat, InFormat, ComesBack}
 use Rattle.trace_state.proofs.Signed.{natural-back, naturals-back, shorts-back, level-back, flag-back, mode-back}
@@ -36,6 +36,10 @@ kind-back : (d : Device) → rateOf d .v ≤ 255 → rateOf d .rr ≤ 255
     → cond (flagOf (wide (kindNumber d))) (Tms5220C (record { v = natural 255 (wide (rateOf d .v)); rr = natural 255 (wide (rateOf d .rr)) })) Tms5220 ≡ d
 kind-back Tms5220 v r = refl
 kind-back (Tms5220C q) v r = rw (natural-back 255 (q .v) v (omega arith), natural-back 255 (q .rr) r (omega arith))
+
+order-back : (o : BitOrder) → orderOf (wide (orderNumber o)) ≡ o
+order-back LeastFirst = refl
+order-back MostFirst = refl
 
 module _ (c : Chip) (f : InFormat c) where
   abbrev s : List ℤ
@@ -84,9 +88,14 @@ module _ (c : Chip) (f : InFormat c) where
       ∙ ap (map (natural 255)) (take-at (map wide (c .control .fifo .bytes)) _ 16 (length-map (c .control .fifo .bytes) wide ∙ f .sixteen))
       ∙ naturals-back 255 (c .control .fifo .bytes) (f .bytes) (omega arith)
 
+  order-is : orderOf (nth s 67) ≡ c .control .fifo .order
+  order-is = rw (number s _ 63 4 67 refl later) (order-back (c .control .fifo .order))
+
   fifo-back : fifoOf s ≡ c .control .fifo
   unfolding stateNumbers
-  fifo-back = rw (bytes-back, natural-back 255 (c .control .fifo .level) (f .level) (omega arith), natural-back 255 (c .control .fifo .«used_bits») (f .«used_bits») (omega arith))
+  fifo-back =
+      let g = c .control .fifo in
+      rw (bytes-back, natural-back 255 (g .level) (f .level) (omega arith), natural-back 255 (g .«used_bits») (f .«used_bits») (omega arith), order-is)
 
   address-back : addressOf s ≡ c .control .address
   unfolding stateNumbers

@@ -7,7 +7,7 @@ use lib.ListN.{getD, take, drop}
 use Rattle.base.specs.Units.{samples, intervals}
 use Rattle.control.specs.Device.{rateOf}
 use Rattle.trace_state.specs.Types.{Device, Tms5220, Tms5220C, AddressRegister, Fifo, Port, Clock, Control, Params, Sound, Chip}
-use Rattle.trace_state.specs.Numbers.{wide, flag, modeNumber, kindNumber, natural, short, flagOf, modeOf}
+use Rattle.trace_state.specs.Numbers.{wide, flag, modeNumber, kindNumber, orderNumber, natural, short, flagOf, orderOf, modeOf}
 
 -- 1..8: mode, position, next nibble, data pending, data byte, interrupt, FIFO level, used bits of the oldest byte
 abbrev pub controlNumbers : Control → List ℕ
@@ -26,11 +26,11 @@ controlNumbers c =
 abbrev pub clockNumbers : Clock → ℕ → ℕ → List ℕ
 clockNumbers c noise pulse = flag (c .sounding) ∷ c .sample .0 ∷ c .interval .0 ∷ noise ∷ pulse ∷ []
 
--- 64..67, those of document 02: device; v and rr, 0 on the TMS5220; whether the frame holds
+-- 64..68, those of document 02: device; v and rr, 0 on the TMS5220; whether the frame holds; the order of the FIFO's bits
 abbrev pub laterNumbers : Chip → List ℕ
 laterNumbers c =
     let d = c .control .device in
-    kindNumber d ∷ rateOf d .v ∷ rateOf d .rr ∷ flag (c .sound .hold) ∷ []
+    kindNumber d ∷ rateOf d .v ∷ rateOf d .rr ∷ flag (c .sound .hold) ∷ orderNumber (c .control .fifo .order) ∷ []
 
 -- energy, pitch, K1..K10
 abbrev pub paramNumbers : Params → List ℤ
@@ -55,9 +55,14 @@ nth s i = getD s i (pos 0)
 abbrev pub addressOf : List ℤ → AddressRegister
 addressOf s = record { position = natural 4294967295 (nth s 1); «next_nibble» = natural 255 (nth s 2) }
 
--- the FIFO's bytes, its level and its used bits
+-- the FIFO's bytes, its level, its used bits and the order of its bits
 abbrev pub fifoOf : List ℤ → Fifo
-fifoOf s = record { bytes = map (natural 255) (take 16 (drop 8 s)); level = natural 255 (nth s 6); «used_bits» = natural 255 (nth s 7) }
+fifoOf s = record {
+  bytes = map (natural 255) (take 16 (drop 8 s));
+  level = natural 255 (nth s 6);
+  «used_bits» = natural 255 (nth s 7);
+  order = orderOf (nth s 67);
+}
 
 -- data pending, data byte, interrupt
 abbrev pub portOf : List ℤ → Port

@@ -1,12 +1,12 @@
 -- A field's value as a number of the list, and a number of the list as a field's value.
-use mathlib.Core.Bool.{Bool, true, false}
+use mathlib.Core.Bool.{Bool, true, false, cond}
 use mathlib.Core.List.{[], _∷_}
 use Prim.Native.Nat.{ℕ, _%_, _^_, min}
 use lib.Dec.{eqb}
 use lib.IntN.{ℤ, pos, negsuc, negℤ}
 use lib.ListN.{getD}
 use Rattle.base.specs.Range.{clamped}
-use Rattle.trace_state.specs.Types.{Device, Tms5220, Tms5220C, Mode, Idle, Rom, Waiting, External}
+use Rattle.trace_state.specs.Types.{BitOrder, LeastFirst, MostFirst, Device, Tms5220, Tms5220C, Mode, Idle, Rom, Waiting, External}
 
 -- a natural number, of which an i64 holds 63 bits
 abbrev pub wide : ℕ → ℤ
@@ -29,6 +29,11 @@ abbrev pub kindNumber : Device → ℕ
 kindNumber Tms5220 = 0
 kindNumber (Tms5220C r) = 1
 
+-- 0 least significant bit first, 1 most significant first
+abbrev pub orderNumber : BitOrder → ℕ
+orderNumber LeastFirst = 0
+orderNumber MostFirst = 1
+
 -- what is beyond 0..most becomes its nearest end
 abbrev pub natural : ℕ → ℤ → ℕ
 natural most (pos n) = min n most
@@ -41,6 +46,10 @@ short z = clamped (negℤ (pos 32768)) (pos 32767) z
 -- a flag; what is beyond 0..1 becomes its nearest end
 abbrev pub flagOf : ℤ → Bool
 flagOf z = eqb (natural 1 z) 1
+
+-- an order; what is beyond 0..1 becomes its nearest end
+abbrev pub orderOf : ℤ → BitOrder
+orderOf z = cond (flagOf z) MostFirst LeastFirst
 
 -- a mode; what is beyond 0..3 becomes its nearest end
 abbrev pub modeOf : ℤ → Mode

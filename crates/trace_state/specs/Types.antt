@@ -7,6 +7,8 @@ pub use Rattle.control.specs.declared.device.Device.the-variants.{Tms5220, Tms5
 pub use Rattle.control.specs.declared.state.Mode.{Mode}
 pub use Rattle.control.specs.declared.state.Mode.the-variants.{Idle, Rom, Waiting, External}
 pub use Rattle.address.specs.declared.AddressRegister.{AddressRegister}
+pub use Rattle.fifo.specs.declared.BitOrder.{BitOrder}
+pub use Rattle.fifo.specs.declared.BitOrder.the-variants.{LeastFirst, MostFirst}
 pub use Rattle.fifo.specs.declared.Fifo.{Fifo}
 pub use Rattle.control.specs.declared.state.Port.{Port}
 pub use Rattle.clock.specs.declared.Clock.{Clock}

@@ -4,7 +4,7 @@ ghost use mathlib.Core.List.{map};
 ghost use Prim.Native.Nat.{_<_, _≤_};
 ghost use lib.ListN.{take, drop};
 ghost use Rattle.trace_script.specs.Script.{stateLength};
-ghost use Rattle.trace_state.specs.Numbers.{natural, short, flagOf, modeOf};
+ghost use Rattle.trace_state.specs.Numbers.{natural, short, flagOf, orderOf, modeOf};
 ghost use Rattle.trace_state.specs.Fields.{nth, addressOf, fifoOf, portOf, clockOf, deviceOf, paramsOf, soundOf, chipOf};
 use crate::numbers::Numbers;
 use crate::numbers::natural;
@@ -18,6 +18,7 @@ use control::device::Device;
 use control::state::Control;
 use control::state::Mode;
 use control::state::Port;
+use fifo::BitOrder;
 use fifo::Fifo;
 use rates::rate::FrameRate;
 use sound::params::Params;
@@ -66,6 +67,17 @@ fn mode_at(numbers: Numbers, i: usize) -> Mode
     }
 }
 
+fn order_at(numbers: Numbers, i: usize) -> BitOrder
+    requires { ⌜ i < stateLength ⌝ }
+    ensures { λ r. ⌜ r ≡ orderOf (nth numbers i) ⌝ }
+{
+    let most_first = flag_at(numbers, i);
+    if most_first {
+        return BitOrder::MostFirst;
+    }
+    BitOrder::LeastFirst
+}
+
 fn bytes_of(numbers: Numbers) -> [u8; 16]
     ensures { λ r. ⌜ r ≡ map (natural 255) (take 16 (drop 8 numbers)) ⌝ }
 {
@@ -101,10 +113,12 @@ fn fifo_of(numbers: Numbers) -> Fifo
     ensures { λ r. ⌜ r ≡ fifoOf numbers ⌝ }
 {
     let bytes = bytes_of(numbers);
+    let order = order_at(numbers, 67);
     Fifo {
         bytes,
         level: byte_at(numbers, 6),
         used_bits: byte_at(numbers, 7),
+        order,
     }
 }
 

@@ -1,9 +1,10 @@
 // The numbers of a list: what a field's value becomes as an i64, and what an i64 becomes as a field's value.
 ghost use mathlib.Core.Path.{_≡_};
 ghost use Prim.Native.Nat.{_≤_};
-ghost use Rattle.trace_state.specs.Numbers.{wide, flag, modeNumber, kindNumber, natural, short};
+ghost use Rattle.trace_state.specs.Numbers.{wide, flag, modeNumber, kindNumber, orderNumber, natural, short};
 use control::device::Device;
 use control::state::Mode;
+use fifo::BitOrder;
 use trace_script::STATE_LENGTH;
 
 // The numbers of a chip.
@@ -45,6 +46,15 @@ pub(crate) fn kind_number(device: Device) -> u64
     match device {
         Device::Tms5220 => 0,
         Device::Tms5220C(_) => 1,
+    }
+}
+
+pub(crate) fn order_number(order: BitOrder) -> u64
+    ensures { λ r. ⌜ r ≡ orderNumber order ⌝ }
+{
+    match order {
+        BitOrder::LeastFirst => 0,
+        BitOrder::MostFirst => 1,
     }
 }
 

@@ -10,6 +10,7 @@ use crate::numbers::flag;
 use crate::numbers::kind_number;
 use crate::numbers::long;
 use crate::numbers::mode_number;
+use crate::numbers::order_number;
 use crate::numbers::wide;
 use chip::state::Chip;
 use clock::Clock;
@@ -49,18 +50,21 @@ fn clock_numbers(clock: Clock, noise: u32, pulse: u32) -> [u64; 5]
     ]
 }
 
-// What document 02 added: the device, the rate that is set on it, and whether the frame holds.
-fn later_numbers(chip: Chip) -> [u64; 4]
+// What document 02 added: the device, the rate that is set on it, whether the frame holds, and the order of the FIFO's bits.
+fn later_numbers(chip: Chip) -> [u64; 5]
     ensures { λ r. ⌜ r ≡ laterNumbers chip ⌝ }
 {
     let control = chip.control;
     let device = control.device;
     let rate = device.rate();
+    let fifo = control.fifo;
+    let order = fifo.order;
     [
         kind_number(device),
         rate.v as u64,
         rate.rr as u64,
         flag(chip.sound.hold),
+        order_number(order),
     ]
 }
 

@@ -30,6 +30,12 @@ body-of-spec =
     let b = d .before .before in
     rw (b .before .if1 .left, ne-eqb _ 87 (b .if2 .left), d .before .if3 .left, ne-eqb _ 71 (d .if4 .left), ne-eqb _ 66 (c .before .before .if5 .left), ne-eqb _ 83 (c .before .if6 .left), c .if7 .taken))
     (λ c.
-    let d = c .before .before .before in
+    let e = c .before in
+    let d = e .before .before .before in
     let b = d .before .before in
-    rw (b .before .if1 .left, ne-eqb _ 87 (b .if2 .left), d .before .if3 .left, ne-eqb _ 71 (d .if4 .left), ne-eqb _ 66 (c .before .before .if5 .left), ne-eqb _ 83 (c .before .if6 .left), c .if7 .left)))
+    rw (b .before .if1 .left, ne-eqb _ 87 (b .if2 .left), d .before .if3 .left, ne-eqb _ 71 (d .if4 .left), ne-eqb _ 66 (e .before .before .if5 .left), ne-eqb _ 83 (e .before .if6 .left), e .if7 .left, c .if8 .taken))
+    (λ c.
+    let e = c .before in
+    let d = e .before .before .before in
+    let b = d .before .before in
+    rw (b .before .if1 .left, ne-eqb _ 87 (b .if2 .left), d .before .if3 .left, ne-eqb _ 71 (d .if4 .left), ne-eqb _ 66 (e .before .before .if5 .left), ne-eqb _ 83 (e .before .if6 .left), e .if7 .left, c .if8 .left)))

@@ -28,7 +28,9 @@ field-spec =
     let e = rw (c .before .control-numbers .ensures) at (c .wide .ensures) in
     returned (c .wide .ok) (e ∙ control-is _ _ (search needs)))
     (λ c. search needs) (λ c. search needs) (λ c κs. search needs)
-    (λ c. returned (c .wide2 .ok) (c .wide2 .ensures ∙ bytes-is _ (search needs) _ (search needs) (search needs)))
+    (λ c.
+    let s = c .before .before .before .before .before .before in
+    returned (c .wide2 .ok) (c .wide2 .ensures ∙ bytes-is _ (sixteen s) _ (search needs) (search needs)))
     (λ c κs. search needs) (λ c. search needs) (λ c. search needs) (λ c κs. search needs)
     (λ c.
     let s = c .before .before .before .before .before .before .before .before in

@@ -5,9 +5,10 @@ use Rattle.trace_state.proofs.to_list.later_numbers.Tie as tie
 
 returns : tie.Need-returns
 returns c =
-    let k = c .before .before .before in
-    rw (k .kind-number .ensures, k .before .rate .ensures, c .flag .ensures)
+    let g = c .before in
+    let k = g .before .before .before in
+    rw (k .kind-number .ensures, k .before .before .rate .ensures, g .flag .ensures, c .order-number .ensures)
 
 pub later-numbers-spec : {M : Type 1} → statement M
 later-numbers-spec =
-    tie.close (tie.spec (λ c κs. search needs) (λ c κs. search needs) (λ c. search needs) (λ c. search needs) (λ c κs. search needs) returns)
+    tie.close (tie.spec (λ c κs. search needs) (λ c κs. search needs) (λ c. search needs) (λ c. search needs) (λ c κs. search needs) (λ c κs. search needs) returns)

@@ -18,11 +18,17 @@ Inv-loop chip numbers₀ i₀ numbers i = (i ≤ stateLength) × (length (stateN
 abbrev μ-loop : tie.MeasureT-loop
 μ-loop chip numbers₀ i₀ numbers i = stateLength - i
 
+-- `search` enters so many fields and no more: `s .good .0 .1 .1 .1 .0` is what is known of the sound
+all-there : (s : tie.Start Inv-loop μ-loop) → length (stateNumbers (s .args .chip)) ≡ stateLength
+all-there s =
+    state-length (s .args .chip) (search needs) (search (needs, s .good .0 .1 .1 .1 .0)) (search (needs, s .good .0 .1 .1 .1 .0))
+    (search (needs, s .good .0 .1 .1 .1 .0))
+
 pub state-numbers-spec : {M : Type 1} → statement M
 state-numbers-spec =
     tie.close (tie.spec Inv-loop μ-loop
     (λ c.
-    let n = state-length (c .args .chip) (search needs) (search needs) (search needs) (search needs) in
+    let n = all-there c in
     (search needs, n, fill-none (sym n)))
     (λ c κs. search needs) (λ c. search needs) (λ c. search needs) (λ c. search needs) (λ c. search needs)
     (λ c.
