@@ -4,19 +4,19 @@
 
 static const struct sound at_rest = {.noise = 8191};
 
-static void start(struct chip *c, bool is_5220c)
+static void start(struct chip *c, bool is_5220c, enum order order)
 {
-    *c = (struct chip){.is_5220c = is_5220c, .sound = at_rest};
+    *c = (struct chip){.is_5220c = is_5220c, .order = order, .sound = at_rest};
 }
 
-void power_up(struct chip *c)
+void power_up(struct chip *c, enum order order)
 {
-    start(c, false);
+    start(c, false, order);
 }
 
-void power_up_5220c(struct chip *c)
+void power_up_5220c(struct chip *c, enum order order)
 {
-    start(c, true);
+    start(c, true, order);
 }
 
 /* ---- the ranges */
@@ -168,7 +168,7 @@ static void obey(struct chip *c, struct bytes image, uint8_t byte, enum command 
         c->mode = WAITING;
         break;
     case RESET:
-        start(c, c->is_5220c);
+        start(c, c->is_5220c, c->order);
         break;
     }
 }
@@ -180,7 +180,7 @@ int chip_write(struct chip *c, struct bytes image, uint8_t byte)
     if (fault)
         return fault;
     if (c->mode == ROM)
-        start(c, c->is_5220c);
+        start(c, c->is_5220c, c->order);
     else if (c->mode == IDLE)
         obey(c, image, byte, command);
     else {
@@ -242,6 +242,23 @@ static void use_up(struct chip *c, unsigned bits)
     change(c, c->mode, c->level - n);
 }
 
+static uint8_t reversed(uint8_t byte)
+{
+    byte = byte >> 4 | byte << 4;
+    byte = (byte >> 2 & 0x33) | (byte & 0x33) << 2;
+    return (byte >> 1 & 0x55) | (byte & 0x55) << 1;
+}
+
+/* The bytes held, for a reader that takes the most significant bit first. */
+static struct bytes held_bytes(const struct chip *c, uint8_t turned[16])
+{
+    if (c->order == MOST_FIRST)
+        return (struct bytes){c->fifo, c->level};
+    for (unsigned i = 0; i < c->level; i++)
+        turned[i] = reversed(c->fifo[i]);
+    return (struct bytes){turned, c->level};
+}
+
 /* The next frame from the ROM or the FIFO; false where it runs out. */
 static bool take_frame(struct chip *c, struct bytes image, struct step *answer)
 {
@@ -256,7 +273,8 @@ static bool take_frame(struct chip *c, struct bytes image, struct step *answer)
         }
         c->position = next;
     } else {
-        struct bytes held = {c->fifo, c->level};
+        uint8_t turned[16];
+        struct bytes held = held_bytes(c, turned);
         if (!frame_at(held, c->used, c->rate, f, &next, &answer->cut) || (f->kind != STOP && next == 8 * held.length)) {
             answer->used_up = 8 * c->level - c->used;
             answer->cut.begun = 0;

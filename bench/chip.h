@@ -69,6 +69,9 @@ struct sound {
 
 enum mode { IDLE, ROM, WAITING, EXTERNAL };
 
+/* which bit of a byte leaves the FIFO first */
+enum order { LEAST_FIRST, MOST_FIRST };
+
 struct chip {
     enum mode mode;
     bool is_5220c;
@@ -77,6 +80,7 @@ struct chip {
     unsigned nibble;
     uint8_t fifo[16];
     unsigned level, used;
+    enum order order;
     bool pending, interrupt, sounding;
     uint8_t byte;
     unsigned sample, interval;
@@ -94,8 +98,8 @@ struct step {
     struct shortfall cut;
 };
 
-void power_up(struct chip *c);
-void power_up_5220c(struct chip *c);
+void power_up(struct chip *c, enum order order);
+void power_up_5220c(struct chip *c, enum order order);
 int chip_write(struct chip *c, struct bytes image, uint8_t byte);
 int chip_read(struct chip *c, uint8_t *byte);
 int chip_step(struct chip *c, struct bytes image, struct bytes voice, struct step *answer);

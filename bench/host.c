@@ -3,9 +3,9 @@
 #include "host.h"
 
 const struct version plain = {c_walk, c_walk_5220c, c_voice_check, c_speak, c_speak_by_steps, c_speak_5220c,
-                              c_speak_external};
+                              c_speak_external, c_speak_external_most_first};
 const struct version proved = {tms_walk, tms_walk_5220c, tms_voice_check, tms_speak, tms_speak_by_steps, tms_speak_5220c,
-                               tms_speak_external};
+                               tms_speak_external, tms_speak_external_most_first};
 
 uint8_t c_walk(const uint8_t *image, size_t image_length, size_t address, size_t *bits, uint32_t *frames,
                uint64_t *intervals, uint64_t *samples, size_t *begun, size_t *missing)
@@ -64,7 +64,7 @@ static int begin(struct chip *c, struct bytes image, size_t address)
     uint8_t bytes[6];
     size_t taken;
     put_speak(bytes, address);
-    power_up(c);
+    power_up(c, LEAST_FIRST);
     if (!image_valid(image))
         return IMAGE;
     if (address >= image.length)
@@ -79,7 +79,7 @@ static int begin_rated(struct chip *c, struct bytes image, size_t address, struc
     size_t taken;
     bytes[0] = 4 * rate.v + rate.rr;
     put_speak(bytes + 1, address);
-    power_up_5220c(c);
+    power_up_5220c(c, LEAST_FIRST);
     int fault = rate_fault(image, address, rate);
     return fault ? fault : give(c, image, bytes, 7, &taken);
 }
@@ -120,22 +120,37 @@ uint8_t c_speak_by_steps(const uint8_t *image, size_t image_length, const uint8_
     return TAKEN;
 }
 
-uint8_t c_speak_external(const uint8_t *image, size_t image_length, const uint8_t *voice, size_t voice_length,
-                         const uint8_t *bytes, size_t bytes_length, int16_t *out, size_t out_length)
+static int speak_external(struct chip *c, struct bytes rom, struct bytes file, struct bytes bytes, int16_t *out,
+                          size_t out_length)
 {
-    struct bytes rom = {image, image_length}, file = {voice, voice_length};
-    struct chip c;
     size_t next = 0, taken;
-    power_up(&c);
-    int refusal = chip_write(&c, rom, 0x60);
+    int refusal = chip_write(c, rom, 0x60);
     if (!refusal)
         refusal = voice_check(file);
     if (refusal)
         return refusal;
     for (size_t i = 0; out_length - i >= 100; i += 100) {
-        give(&c, rom, bytes + next, bytes_length - next, &taken);
+        give(c, rom, bytes.at + next, bytes.length - next, &taken);
         next += taken;
-        refusal = chip_run(&c, rom, file, out + i, 100);
+        refusal = chip_run(c, rom, file, out + i, 100);
     }
     return refusal;
+}
+
+uint8_t c_speak_external(const uint8_t *image, size_t image_length, const uint8_t *voice, size_t voice_length,
+                         const uint8_t *bytes, size_t bytes_length, int16_t *out, size_t out_length)
+{
+    struct chip c;
+    power_up(&c, LEAST_FIRST);
+    return speak_external(&c, (struct bytes){image, image_length}, (struct bytes){voice, voice_length},
+                          (struct bytes){bytes, bytes_length}, out, out_length);
+}
+
+uint8_t c_speak_external_most_first(const uint8_t *image, size_t image_length, const uint8_t *voice, size_t voice_length,
+                                    const uint8_t *bytes, size_t bytes_length, int16_t *out, size_t out_length)
+{
+    struct chip c;
+    power_up(&c, MOST_FIRST);
+    return speak_external(&c, (struct bytes){image, image_length}, (struct bytes){voice, voice_length},
+                          (struct bytes){bytes, bytes_length}, out, out_length);
 }

@@ -19,7 +19,7 @@ rated_walk_call c_walk_5220c;
 check_call c_voice_check;
 speak_call c_speak, c_speak_by_steps;
 rated_speak_call c_speak_5220c;
-external_call c_speak_external;
+external_call c_speak_external, c_speak_external_most_first;
 
 struct version {
     walk_call *walk;
@@ -27,7 +27,7 @@ struct version {
     check_call *check;
     speak_call *speak, *speak_by_steps;
     rated_speak_call *speak_5220c;
-    external_call *speak_external;
+    external_call *speak_external, *speak_external_most_first;
 };
 
 extern const struct version plain, proved;

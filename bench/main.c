@@ -53,13 +53,11 @@ static const struct workload *named(const char *name)
     abort();
 }
 
-/* Rate 0 is that of a TMS5220: these speak the same frames, and so must give the same samples. */
-static int compare_rates(void)
+/* Workloads that speak the same frames, and so must give the same samples. */
+static int compare_named(const char *const *names, int count)
 {
-    static const char *const names[] = {"run, mixed", "run, mixed, 5220C", "run, mixed, rate bits"};
-    enum { COUNT = sizeof names / sizeof *names };
     uint64_t first = 0;
-    for (int i = 0; i < COUNT; i++) {
+    for (int i = 0; i < count; i++) {
         const struct workload *w = named(names[i]);
         prepare(w);
         uint64_t found = digest_of(w, &proved, w->timed);
@@ -70,16 +68,26 @@ static int compare_rates(void)
             return 1;
         }
     }
-    printf("%d runs at rate 0, the same samples\n", COUNT);
+    return 0;
+}
+
+/* Rate 0 is that of a TMS5220, and bytes turned round that leave the FIFO turned round are the bytes. */
+static int compare_alike(void)
+{
+    static const char *const rates[] = {"run, mixed", "run, mixed, 5220C", "run, mixed, rate bits"};
+    static const char *const orders[] = {"external speech, most first", "external speech, least first"};
+    if (compare_named(rates, 3) || compare_named(orders, 2))
+        return 1;
+    printf("3 runs at rate 0, the same samples; external speech in 2 bit orders, the same samples\n");
     return 0;
 }
 
 enum { MOST = 4000 };
 
 struct answer {
-    uint8_t refusal[7];
+    uint8_t refusal[8];
     uint64_t walked[2][6];
-    int16_t out[4][MOST];
+    int16_t out[5][MOST];
 };
 
 struct input {
@@ -179,6 +187,8 @@ static void answer_by(const struct version *v, const struct input *in, struct an
                                       in->length / 4);
     a->refusal[4] = v->speak_external(in->image, in->image_length, in->voice, in->voice_length, in->bytes,
                                       in->bytes_length, a->out[2], in->length);
+    a->refusal[7] = v->speak_external_most_first(in->image, in->image_length, in->voice, in->voice_length, in->bytes,
+                                                 in->bytes_length, a->out[4], in->length);
     a->refusal[6] = v->speak_5220c(in->image, in->image_length, in->voice, in->voice_length, in->address, in->v, in->rr,
                                    a->out[3], in->length);
 }
@@ -262,7 +272,7 @@ int main(int argc, char **argv)
 {
     const char *what = argc > 1 ? argv[1] : "";
     if (!strcmp(what, "compare"))
-        return compare_workloads() || compare_rates() || compare_random(3000);
+        return compare_workloads() || compare_alike() || compare_random(3000);
     if (!strcmp(what, "list")) {
         for (size_t i = 0; i < workload_count; i++) {
             const struct workload *w = &workloads[i];

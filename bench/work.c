@@ -101,17 +101,38 @@ static void run_rate_bits(const struct version *v, size_t samples)
     speak_rated(v->speak_5220c, 1, samples);
 }
 
-/* ---- external speech: the bytes of the image, and an image of one byte for the calls to take */
+/* ---- external speech: the bytes of the image, in either bit order, and an image of one byte for the calls to take */
 
-static void external(const struct version *v, size_t samples)
+static void prepare_least_first(void)
+{
+    prepare_mixed();
+    for (size_t i = 0; i < image.length; i++) {
+        unsigned turned = 0;
+        for (int bit = 0; bit < 8; bit++)
+            turned |= (image.bytes[i] >> bit & 1) << (7 - bit);
+        image.bytes[i] = turned;
+    }
+}
+
+static void feed_by(external_call *speak, size_t samples)
 {
     static const uint8_t rom[1];
     while (samples > 0) {
         size_t part = samples < PHRASE ? samples : PHRASE;
-        note(v->speak_external(rom, sizeof rom, voice, voice_length, image.bytes, image.length, out, part));
+        note(speak(rom, sizeof rom, voice, voice_length, image.bytes, image.length, out, part));
         note_samples(part);
         samples -= part;
     }
+}
+
+static void external_most_first(const struct version *v, size_t samples)
+{
+    feed_by(v->speak_external_most_first, samples);
+}
+
+static void external_least_first(const struct version *v, size_t samples)
+{
+    feed_by(v->speak_external, samples);
 }
 
 /* ---- the walk */
@@ -212,7 +233,8 @@ const struct workload workloads[] = {
     {"run, mixed, 5220C", "sample", 10000000, 20000, 120000, prepare_mixed, run_5220c},
     {"run, mixed, rate bits", "sample", 10000000, 20000, 120000, prepare_rate_zero, run_rate_bits},
     {"run, voiced, loud", "sample", 10000000, 20000, 120000, prepare_loud, run},
-    {"external speech, mixed", "sample", 2000000, 20000, 120000, prepare_mixed, external},
+    {"external speech, most first", "sample", 2000000, 20000, 120000, prepare_mixed, external_most_first},
+    {"external speech, least first", "sample", 2000000, 20000, 120000, prepare_least_first, external_least_first},
     {"step by step, mixed", "sample", 200000, 2000, 12000, prepare_mixed, step},
     {"walk, silence", "frame", 5000000, 100000, 500000, prepare_silence, walk},
     {"walk, voiced", "frame", 2000000, 10000, 40000, prepare_voiced, walk},
