@@ -56,7 +56,8 @@ pub record SpeakByte : Type 0 where
   pub byte : ℕ
   pub speak : commandOf byte ≡ Speak
 
--- the chip after power-up with an order of the FIFO's bits, which the plain one has too (02, §9), the five loads and Speak
+-- the chip after power-up with an order of the FIFO's bits, the five loads and Speak; the plain power-up is that with the least
+-- significant first (02, §9)
 abbrev pub speaking : List ℕ → BitOrder → {a : ℕ} → Loads a → SpeakByte → Chip
 speaking image o l s = afterBytes image (powerUpWith o) (loadBytes l ++ (s .byte ∷ []))
 

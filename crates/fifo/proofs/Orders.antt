@@ -6,10 +6,11 @@ use Prim.Native.Nat.{ℕ, zero, suc, _+_, _*_, _/_, _%_, _<_}
 use native.Mathlib.Nat.{add-zero}
 use native.Mathlib.Omega.{arith}
 use lib.ListN.{length, take, length-map}
-use Rattle.rom.specs.Bits.{digits, bitsOfBytes}
+use Rattle.rom.specs.Bits.{digits}
 use Rattle.fifo.specs.declared.BitOrder.{BitOrder}
 use Rattle.fifo.specs.declared.BitOrder.the-variants.{LeastFirst, MostFirst}
-use Rattle.fifo.specs.Buffer.{bitsLeaving, numberOf, reversed, readBytes}
+use Rattle.fifo.specs.Buffer.{numberOf, reversed, readBytes}
+use Rattle.fifo.specs.Laws.{ReadBits}
 
 -- each is 0 or 1
 abbrev AllBits : List ℕ → Type 0
@@ -35,7 +36,7 @@ reversed-digits : (b : ℕ) → digits 8 (reversed b) ≡ reverse (digits 8 b)
 unfolding digits reversed
 reversed-digits b = number-digits 0 (reverse (digits 8 b)) 0 (omega arith)
 
-pub read-bits : (o : BitOrder) (bs : List ℕ) → bitsOfBytes (readBytes o bs) ≡ bitsLeaving o bs
+pub read-bits : ReadBits
 read-bits MostFirst [] = refl
 read-bits MostFirst (b ∷ bs) = ap (λ (l : List ℕ). digits 8 b ++ l) (read-bits MostFirst bs)
 read-bits LeastFirst [] = refl

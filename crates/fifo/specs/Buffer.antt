@@ -21,7 +21,7 @@ lowLevel = 8
 abbrev pub emptyFifo : BitOrder → Fifo
 emptyFifo o = record { bytes = replicate fifoSize 0; level = 0; «used_bits» = 0; order = o }
 
--- held bytes are discarded at a stop, used up at running out, and gone at Reset; the order stays
+-- held bytes are discarded at a stop, and used up at running out; the order stays
 abbrev pub emptied : Fifo → Fifo
 emptied f = emptyFifo (f .order)
 

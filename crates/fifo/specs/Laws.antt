@@ -1,15 +1,17 @@
 -- What is proved of the FIFO: what it holds, and which frame is taken from it.
 use mathlib.Core.Path.{_≡_}
 use mathlib.Core.Logic.{_↔_}
-use mathlib.Core.List.{_++_, IsPrefix}
+use mathlib.Core.List.{List, _++_, IsPrefix}
 use Prim.Native.Nat.{ℕ, _+_, _*_, _-_, _<_, _≤_}
 use lib.ListN.{length, drop}
+use Rattle.rom.specs.Bits.{bitsOfBytes}
 use Rattle.rom.specs.Items.{whole, cut}
 use Rattle.rom.specs.Reader.{shortOf}
 use Rattle.rom.specs.Prefix.{prefixedCode, readPrefixed}
 use Rattle.rom.specs.declared.frames.Frame.{Frame}
+use Rattle.fifo.specs.declared.BitOrder.{BitOrder}
 use Rattle.fifo.specs.declared.Fifo.{Fifo}
-use Rattle.fifo.specs.Buffer.{fifoSize, appended, usedUp, bitsOfByte, heldBits, heldBytes}
+use Rattle.fifo.specs.Buffer.{fifoSize, appended, usedUp, bitsOfByte, bitsLeaving, heldBits, readBytes, heldBytes}
 
 -- what a FIFO in its ranges has, in every mode: 16 bytes, of which the level are held, and no more bits used than held
 pub record Fits (f : Fifo) : Type 0 where
@@ -20,6 +22,10 @@ pub record Fits (f : Fifo) : Type 0 where
 -- The FIFO holds eight bits for each byte, less those used.
 abbrev pub HeldLength : Type 0
 HeldLength = (f : Fifo) → Fits f → length (heldBits f) ≡ 8 * f .level - f .«used_bits»
+
+-- The bytes as the frame reader takes them have the bits that leave, in their order.
+abbrev pub ReadBits : Type 0
+ReadBits = (o : BitOrder) (bs : List ℕ) → bitsOfBytes (readBytes o bs) ≡ bitsLeaving o bs
 
 -- A byte more puts its bits after those held.
 abbrev pub HeldAppended : Type 0

@@ -85,7 +85,7 @@ impl Fifo {
         }
     }
 
-    // All bytes gone, at a stop, at running out and at Reset; the order stays.
+    // All bytes gone, at a stop and at running out; the order stays.
     pub fn discard(self) -> Fifo
         ensures { λ r. ⌜ r ≡ emptied self ⌝ }
     {
