@@ -34,7 +34,7 @@ printf 'bad script\n' | cmp - "$scratch/over"
 printf 'P' | target/model-rustc > "$scratch/power"
 {
     printf 'P 0\nC'
-    for n in $(seq 68); do
+    for n in $(seq 69); do
         if [ "$n" = 28 ]; then printf ' 8191'; else printf ' 0'; fi
     done
     printf '\n'

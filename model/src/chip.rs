@@ -31,6 +31,8 @@ pub const ZERO_VALUES: Values = Values { energy: 0, pitch: 0, k: [0; 11] };
 /// is part of the sound (D 105).
 /// 9: "The order is part of the chip": `order`, which belongs to the FIFO
 /// (D 109). No call but the power-ups sets it.
+/// 12: "the chip carries a count of busy samples": `busy`, which belongs to the
+/// port, as the mode does that its range goes by (D 112).
 #[derive(Clone, Copy, PartialEq, Debug)]
 pub struct Chip {
     pub mode: i64,
@@ -55,6 +57,7 @@ pub struct Chip {
     pub rr: i64,
     pub hold: i64,
     pub order: i64,
+    pub busy: i64,
 }
 
 /// 01: "Reset gives the power-up state: idle, silent, empty FIFO, position 0,
@@ -63,6 +66,7 @@ pub struct Chip {
 /// 5: "Power-up and Reset mean v = 0, rr = 00."
 /// 9: "A second power-up takes a bit order for the FIFO". Each device has one
 /// (D 109).
+/// 12: "0 after power-up".
 pub fn power_up_with(device: i64, order: i64) -> Chip {
     let chip = Chip {
         mode: IDLE,
@@ -87,6 +91,7 @@ pub fn power_up_with(device: i64, order: i64) -> Chip {
         rr: 0,
         hold: 0,
         order,
+        busy: 0,
     };
     put_to_rest(chip)
 }
@@ -181,6 +186,8 @@ fn state_holds(chip: &Chip) -> bool {
         && data_mode_holds(chip)
         && v_holds(chip.v)
         && rr_holds(chip.rr)
+        && busy_holds(chip)
+        && busy_mode_holds(chip)
 }
 
 /// No range of 01, only what the trace format promises of each state:
@@ -297,6 +304,40 @@ fn data_mode_holds(chip: &Chip) -> bool {
     chip.pending == 0 || chip.mode == IDLE
 }
 
+/// 12: "The state's ranges gain 0..2".
+fn busy_holds(chip: &Chip) -> bool {
+    (0..=2).contains(&chip.busy)
+}
+
+/// 12: "above 0 only in idle." Sounding or not.
+fn busy_mode_holds(chip: &Chip) -> bool {
+    chip.busy == 0 || chip.mode == IDLE
+}
+
+// ---------------------------------------------------------------- busy
+
+// 12: "2 after a taken Read and Branch". Source document 000 gives 240
+// microseconds; a sample has 125.
+const BRANCH_SAMPLES: i64 = 2;
+
+/// 12: "2 after a taken Read and Branch". No other call raises the count.
+fn made_busy(chip: Chip) -> Chip {
+    Chip { busy: BRANCH_SAMPLES, ..chip }
+}
+
+/// 12: "While it's above 0".
+fn is_busy(chip: &Chip) -> bool {
+    chip.busy > 0
+}
+
+/// 12: "one less each sample step", down to 0 (D 112).
+pub fn less_busy(chip: Chip) -> Chip {
+    if is_busy(&chip) {
+        return Chip { busy: chip.busy - 1, ..chip };
+    }
+    chip
+}
+
 // ---------------------------------------------------------------- FIFO
 
 /// 01: "FIFO bits leave in order". The bytes as they were written, the oldest
@@ -405,14 +446,25 @@ pub fn write(image: &[u8], chip: Chip, byte: i64) -> Written {
 }
 
 /// 01: "A write takes image and state": 3, 4, then 1, then 2. (D 27, D 31)
+/// 12: "Refusals: 1 in this case too, at its old place." (D 91)
 fn write_refusal(image: &[u8], chip: &Chip, byte: i64) -> i64 {
     first_refusal(&[
         &|| image_refusal(image),
         &|| state_refusal(chip),
+        &|| busy_refusal(chip),
         &|| full_refusal(chip),
         &|| speaking_refusal(chip, byte),
         &|| beyond_refusal(image, chip, byte),
     ])
+}
+
+/// 12: "While it's above 0 every written byte, Reset included, is answered
+/// WAIT". Whatever the byte is, Load Frame Rate and another branch too.
+fn busy_refusal(chip: &Chip) -> i64 {
+    if is_busy(chip) {
+        return WAIT;
+    }
+    TAKEN
 }
 
 /// 01: "WAIT | a byte is written in Speak External with 16 bytes held".
@@ -515,13 +567,14 @@ fn read_byte(image: &[u8], chip: Chip) -> Chip {
 /// 01: "Read and Branch takes the byte holding the position and the one after
 /// it, first byte low; the low 14 bits of the first byte's address become the
 /// word's, and the position that byte's first bit." (D 32, D 33)
+/// 12: "Branching takes time."
 fn read_and_branch(image: &[u8], chip: Chip) -> Chip {
     let address = byte_address(&chip);
     let word = byte_at(image, address) + 256 * byte_at(image, address + 1);
     let above = address - address.rem_euclid(LOW_14_BITS);
     let target = above + word.rem_euclid(LOW_14_BITS);
     let next = Chip { position: BYTE * target, ..chip };
-    restart_nibble(next)
+    made_busy(restart_nibble(next))
 }
 
 /// 01: "Load Address puts a nibble into the byte address (position / 8, modulo

@@ -82,6 +82,9 @@ fn taken_step(image: &[u8], tables: &Tables, chip: Chip) -> Stepped {
     if interrupts(before, after) {
         stepped.chip.interrupt = 1;
     }
+    // 12: "one less each sample step, sounding or not". So each step of a run
+    // counts (D 112), and a refused one doesn't (D 90).
+    stepped.chip = less_busy(stepped.chip);
     stepped
 }
 
@@ -100,10 +103,11 @@ fn without_frame(chip: Chip, report: i64) -> Stepped {
     Stepped { chip, refusal: TAKEN, sample: 0, report, frame: NO_FRAME, short: NOT_SHORT }
 }
 
-/// A step but for the interrupt.
+/// A step but for the interrupt and the count of busy samples.
 fn sounded(image: &[u8], tables: &Tables, given: Chip) -> Stepped {
     let mut chip = given;
-    // 01: "Not sounding, it gives 0 and changes nothing."
+    // 01: "Not sounding, it gives 0 and changes nothing." 12: "this amends
+    // document 01's step that changes nothing": it changes the count alone.
     if chip.sounding == 0 {
         return without_frame(chip, NOTHING);
     }

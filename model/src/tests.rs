@@ -1,7 +1,7 @@
 //! Tests: document 01's "Numbers to try", sizes at their bounds, each refusal
 //! number, the order of checks, the traps, the TMS5220C, how short a frame is,
-//! frames that hold, look and acknowledge, the FIFO's bit order, the trace
-//! format, garbage.
+//! frames that hold, look and acknowledge, the FIFO's bit order, the time that a
+//! branch takes, the trace format, garbage.
 
 use crate::chip::*;
 use crate::frame::*;
@@ -171,6 +171,9 @@ impl Dice {
         if chip.mode == IDLE && self.below(2) == 0 {
             chip.pending = 1;
             chip.data = self.within(0, 255);
+        }
+        if chip.mode == IDLE && self.below(3) == 0 {
+            chip.busy = self.within(1, 2);
         }
         match chip.mode {
             WAITING => chip.level = self.within(0, 8),
@@ -625,6 +628,19 @@ fn state_ranges() {
     check("pending in waiting", Chip { pending: 1, mode: WAITING, ..power_up() }, STATE);
     check("pending in external speech", Chip { pending: 1, ..external_speech }, STATE);
     check("interrupt", Chip { interrupt: 1, ..power_up() }, TAKEN);
+    // Busy samples: in idle alone, sounding or not.
+    for device in [TMS5220, TMS5220C] {
+        range("busy in idle", Chip { device, ..power_up() }, &|c, v| c.busy = v, 0, 2);
+        range("busy in a stop's frame", Chip { device, ..sounding }, &|c, v| c.busy = v, 0, 2);
+        range("busy in ROM speech", Chip { device, mode: ROM, ..sounding }, &|c, v| c.busy = v, 0, 0);
+        range("busy in waiting", Chip { device, mode: WAITING, ..power_up() }, &|c, v| c.busy = v, 0, 0);
+        range("busy in waiting, sounding", Chip { device, mode: WAITING, ..sounding }, &|c, v| c.busy = v, 0, 0);
+        range("busy in external speech", Chip { device, ..external_speech }, &|c, v| c.busy = v, 0, 0);
+    }
+    for mode in [IDLE, ROM, WAITING] {
+        check("busy 2", Chip { mode, busy: 2, ..sounding }, if mode == IDLE { TAKEN } else { STATE });
+        check("busy 255", Chip { mode, busy: 255, ..sounding }, STATE);
+    }
 }
 
 // ---------------------------------------------------------------- order of checks
@@ -660,6 +676,17 @@ fn order_of_checks() {
     assert_eq!(write(&[], full, 0).refusal, IMAGE);
     assert_eq!(write(&[0], Chip { nibble: 5, ..full }, 0).refusal, STATE);
     assert_eq!(write(&[0], full, 0).refusal, WAIT);
+    // A busy chip waits at the same place.
+    let busy = Chip { busy: 2, position: 80, ..power_up() };
+    for byte in [0x10, 0x30, 0x50, 0x70] {
+        assert_eq!(write(&[], Chip { nibble: 5, ..busy }, byte).refusal, IMAGE);
+        assert_eq!(write(&[], busy, byte).refusal, IMAGE);
+        assert_eq!(write(&[0], Chip { nibble: 5, ..busy }, byte).refusal, STATE);
+        assert_eq!(write(&[0], Chip { busy: 3, ..busy }, byte).refusal, STATE);
+        assert_eq!(write(&[0], busy, byte).refusal, WAIT);
+        let beyond = if byte == 0x70 { TAKEN } else { BEYOND };
+        assert_eq!(write(&[0], Chip { busy: 0, ..busy }, byte).refusal, beyond);
+    }
     // Reset too, and FIFO bytes.
     assert_eq!(write(&[], power_up(), 0x70).refusal, IMAGE);
     assert_eq!(write(&[0], bad_chip, 0x70).refusal, STATE);
@@ -854,6 +881,13 @@ fn not_sounding_changes_nothing() {
         let stepped = taken(&[0], chip);
         assert_eq!((stepped.chip, stepped.sample, stepped.report), (chip, 0, NOTHING));
         assert_eq!(stepped.frame, NO_FRAME);
+    }
+    // But for the busy samples.
+    let quiet = Chip { interrupt: 1, position: 99, nibble: 3, pending: 1, data: 7, ..power_up_with(TMS5220C, MOST_FIRST) };
+    for busy in 1..=2 {
+        let stepped = taken(&[0], Chip { busy, ..quiet });
+        assert_eq!((stepped.chip, stepped.sample, stepped.report), (Chip { busy: busy - 1, ..quiet }, 0, NOTHING));
+        assert_eq!((stepped.frame, stepped.short), (NO_FRAME, NOT_SHORT));
     }
 }
 
@@ -2093,7 +2127,185 @@ fn rom_has_its_own_order() {
     }
 }
 
+// ---------------------------------------------------------------- branching takes time
+
+/// The same chip without the count.
+fn ready(chip: Chip) -> Chip {
+    Chip { busy: 0, ..chip }
+}
+
+/// A chip that has branched, on each device with each order: silent, and in
+/// the frame of a stop at its first samples, across an interval's end, and
+/// before the frame's end.
+fn branched(image: &[u8]) -> Vec<Chip> {
+    let mut chips = Vec::new();
+    for device in [TMS5220, TMS5220C] {
+        for order in [LEAST_FIRST, MOST_FIRST] {
+            let up = power_up_with(device, order);
+            chips.push(writes(image, up, &[0x30]));
+            let stopped = taken(&[0xFF], writes(&[0xFF], up, &[0x50])).chip;
+            for samples in [0, 23, 24, 197, 198, 199] {
+                let sounding = steps(image, stopped, samples);
+                assert_eq!((sounding.mode, sounding.sounding), (IDLE, 1));
+                chips.push(writes(image, sounding, &[0xB7]));
+            }
+        }
+    }
+    chips
+}
+
+#[test]
+fn a_branch_takes_two_samples() {
+    let image = [0x05, 0xC0, 0, 0, 0, 0x12, 0x34];
+    for after in branched(&image) {
+        assert_eq!(after.busy, 2);
+        let mut chip = after;
+        for busy in [2, 1] {
+            assert_eq!(chip.busy, busy);
+            for byte in 0..256 {
+                let answer = write(&image, chip, byte);
+                assert_eq!((answer.refusal, answer.chip), (WAIT, chip), "byte {byte:02x}, busy {busy}");
+            }
+            chip = taken(&image, chip).chip;
+        }
+        assert_eq!(chip.busy, 0);
+        for byte in 0..256 {
+            assert_eq!(write(&image, chip, byte).refusal, TAKEN, "byte {byte:02x}");
+        }
+        // Below 0 it doesn't go, and the next branch takes its time too.
+        let later = taken(&image, taken(&image, chip).chip).chip;
+        assert_eq!(later.busy, 0);
+        assert_eq!(writes(&image, later, &[0x30]).busy, 2);
+        // Reset, now that it is taken, gives the power-up state.
+        assert_eq!(writes(&image, chip, &[0x70]), power_up_with(chip.device, chip.order));
+    }
+    // To the field: nothing but what document 01 says of a branch, and the count.
+    let before = Chip { nibble: 3, pending: 1, data: 9, interrupt: 1, ..power_up_of(TMS5220C) };
+    let after = Chip { position: 8 * 5, nibble: 0, pending: 0, data: 0, busy: 2, ..before };
+    assert_eq!(writes(&image, before, &[0x30]), after);
+}
+
+#[test]
+fn only_a_branch_makes_busy() {
+    let image = [0x05, 0xC0, 0, 0, 0, 0x12, 0x34];
+    for device in [TMS5220, TMS5220C] {
+        let idle = power_up_of(device);
+        let chips = [idle, Chip { position: 20, ..idle }, writes(&image, idle, &[0x50]), writes(&image, idle, &[0x60])];
+        for chip in chips.into_iter().chain([writes(&image, chips[3], &[0; 9])]) {
+            for byte in 0..256 {
+                let answer = write(&image, chip, byte);
+                let branches = chip.mode == IDLE && byte & 0x70 == 0x30;
+                assert_eq!(answer.chip.busy, if branches { 2 } else { 0 }, "byte {byte:02x}");
+            }
+            assert_eq!((read(chip).chip.busy, acknowledge(chip).chip.busy), (0, 0));
+            assert_eq!((look(chip).chip.busy, taken(&image, chip).chip.busy), (0, 0));
+        }
+        // A branch that is refused leaves the count.
+        let beyond = Chip { position: 8 * 6, ..idle };
+        let answer = write(&image, beyond, 0x30);
+        assert_eq!((answer.refusal, answer.chip), (BEYOND, beyond));
+        for busy in 1..=2 {
+            let busy = Chip { busy, ..idle };
+            let answer = write(&image, busy, 0x30);
+            assert_eq!((answer.refusal, answer.chip), (WAIT, busy));
+        }
+    }
+}
+
+#[test]
+fn a_run_counts_by_its_steps() {
+    let image = [0x05, 0xC0, 0, 0, 0, 0x12, 0x34];
+    for after in branched(&image) {
+        for busy in 0..=2 {
+            let chip = Chip { busy, ..after };
+            for count in [0, 1, 2, 3, 4, 25, 200, 8_192] {
+                let ran = steps(&image, chip, count);
+                assert_eq!(ran.busy, (busy - count).max(0), "a run of {count}");
+                assert_eq!(ready(ran), steps(&image, ready(chip), count));
+            }
+        }
+    }
+}
+
+#[test]
+fn refused_steps_and_runs_leave_the_count() {
+    let (image, file) = ([0x05, 0xC0], voice(3));
+    let broken = |busy: i64| Chip { busy, nibble: 5, ..power_up() };
+    for busy in 1..=2 {
+        let chip = Chip { busy, ..power_up() };
+        for (image, file, chip, refusal) in [
+            (&image[..0], &file[..], chip, IMAGE),
+            (&image[..], &file[..5], chip, VOICE_SIZE),
+            (&image[..], &with(&file, 2, &[0])[..], chip, VOICE_VERSION),
+            (&image[..], &file[..], broken(busy), STATE),
+        ] {
+            let stepped = step(image, file, chip);
+            assert_eq!((stepped.refusal, stepped.chip), (refusal, chip));
+            for count in 0..4 {
+                let ran = run(image, file, chip, &mut vec![9_999; count]);
+                assert_eq!((ran.refusal, ran.chip), (refusal, chip));
+            }
+        }
+        let ran = run(&image, &file, chip, &mut []);
+        assert_eq!((ran.refusal, ran.chip), (TAKEN, chip));
+    }
+}
+
+#[test]
+fn reads_work_while_busy() {
+    for busy in 0..=2 {
+        let chip = Chip { busy, interrupt: 1, pending: 1, data: 0x5A, ..power_up() };
+        looks(chip, 0x5A);
+        let read_data = acknowledges(chip);
+        assert_eq!(read_data, Chip { pending: 0, data: 0, ..chip });
+        looks(read_data, 0x60);
+        let read_status = acknowledges(read_data);
+        assert_eq!(read_status, Chip { interrupt: 0, ..read_data });
+        assert_eq!(read_status.busy, busy);
+        looks(read_status, 0x60);
+    }
+}
+
 // ---------------------------------------------------------------- laws
+
+/// The count stands in the way of written bytes and of nothing else; what a
+/// step does but for it does not go by it.
+#[test]
+fn busy_stands_beside_the_rest() {
+    let mut dice = Dice(0x1212_1212);
+    let (mut waited, mut sounded) = (0, 0);
+    for _ in 0..20_000 {
+        let bytes = 1 + dice.below(12) as usize;
+        let image = dice.bytes(bytes);
+        let file = voice(1 + dice.below(64) as i64);
+        let chip = dice.chip(bytes as i64);
+        let other = ready(chip);
+        assert_eq!((state_refusal(&other), status(&other)), (TAKEN, status(&chip)));
+        let byte = dice.below(256) as i64;
+        let (one, two) = (write(&image, chip, byte), write(&image, other, byte));
+        if chip.busy > 0 {
+            assert_eq!((one.refusal, one.chip), (WAIT, chip));
+            waited += 1;
+            sounded += chip.sounding;
+        } else {
+            assert_eq!((one.refusal, one.chip), (two.refusal, two.chip));
+        }
+        let branched = two.refusal == TAKEN && chip.mode == IDLE && byte & 0x70 == 0x30;
+        assert_eq!(two.chip.busy, if branched { 2 } else { 0 });
+        let (one, two) = (read(chip), read(other));
+        assert_eq!((one.refusal, one.byte, one.chip), (two.refusal, two.byte, Chip { busy: chip.busy, ..two.chip }));
+        assert_eq!(acknowledge(chip).chip, one.chip);
+        let (mut one, mut two) = (chip, other);
+        for count in 1..4 {
+            let (left, right) = (step(&image, &file, one), step(&image, &file, two));
+            assert_eq!((left.sample, left.report, left.frame, left.short), (right.sample, right.report, right.frame, right.short));
+            assert_eq!(left.chip, Chip { busy: (chip.busy - count).max(0), ..right.chip });
+            assert_eq!(right.chip.busy, 0);
+            (one, two) = (left.chip, right.chip);
+        }
+    }
+    assert!(waited > 1_000 && sounded > 300 && waited - sounded > 300);
+}
 
 /// Whatever is done with a chip can be done with the other order and each
 /// byte for the FIFO turned round, and nothing else differs.
@@ -2343,6 +2555,37 @@ fn trace_orders() {
 }
 
 #[test]
+fn trace_busy() {
+    let start = [counted(b'I', &[0x05, 0xC0]), counted(b'V', &voice(2))].concat();
+    let line = |device: i64, position: i64, busy: i64| {
+        let mut numbers = numbers_of(&power_up_of(device));
+        numbers[1] = position;
+        numbers[68] = busy;
+        format!("C{}\n", numbers.iter().map(|number| format!(" {number}")).collect::<String>())
+    };
+    let none = " 0".repeat(17);
+    for (up, device) in [("P", TMS5220), ("Q", TMS5220C)] {
+        let script = [&start[..], up.as_bytes(), b"W\x30W\x70LTW\x05W\x30RTW\x70"].concat();
+        let [two, one, gone] = [2, 1, 0].map(|busy| line(device, 40, busy));
+        let expected = format!(
+            "I 2\nV 0\n{up} 0\n{}W 0\n{two}W 1\n{two}L 0 96\n{two}T 0 0 0{none}\n{one}W 1\n{one}W 1\n{one}R 0 96\n{one}\
+             T 0 0 0{none}\n{gone}W 0\n{}",
+            line(device, 0, 0),
+            line(device, 0, 0)
+        );
+        assert_eq!(played(&script), expected);
+        // A run of two is enough, one of nothing changes nothing.
+        let script = [&start[..], up.as_bytes(), b"W\x30", &numbered(b'U', 0), b"W\x00", &numbered(b'U', 2), b"W\x70"].concat();
+        let expected = format!(
+            "I 2\nV 0\n{up} 0\n{}W 0\n{two}U 0 0\n{two}W 1\n{two}U 0 2 0 0\n{gone}W 0\n{}",
+            line(device, 0, 0),
+            line(device, 0, 0)
+        );
+        assert_eq!(played(&script), expected);
+    }
+}
+
+#[test]
 fn trace_cuts() {
     let none = " 0".repeat(13);
     let image = counted(b'I', &[0x03, 0x83]);
@@ -2389,8 +2632,8 @@ fn trace_runs() {
 
 #[test]
 fn trace_states() {
-    // All 68 numbers come back as they are, and in their places.
-    let numbers: Vec<i64> = (1..=68).collect();
+    // All 69 numbers come back as they are, and in their places.
+    let numbers: Vec<i64> = (1..=69).collect();
     let line = format!("C{}\n", numbers.iter().map(|number| format!(" {number}")).collect::<String>());
     assert_eq!(played(&state_record(&numbers)), line);
     let mut array = [0; CHIP_NUMBERS];
@@ -2401,12 +2644,12 @@ fn trace_states() {
     assert_eq!((chip.currents.energy, chip.currents.k[1], chip.currents.k[10]), (30, 32, 41));
     assert_eq!((chip.targets.energy, chip.targets.k[1], chip.targets.k[10]), (42, 44, 53));
     assert_eq!((chip.memory[1], chip.memory[10]), (54, 63));
-    assert_eq!((chip.device, chip.v, chip.rr, chip.hold, chip.order), (64, 65, 66, 67, 68));
-    // A TMS5220 has no rate, but it holds, and has an order.
-    array[63..].copy_from_slice(&[TMS5220, 1, 3, 1, 1]);
-    assert_eq!(numbers_of(&chip_of(&array))[63..], [TMS5220, 0, 0, 1, 1]);
+    assert_eq!((chip.device, chip.v, chip.rr, chip.hold, chip.order, chip.busy), (64, 65, 66, 67, 68, 69));
+    // A TMS5220 has no rate, but it holds, has an order, and can be busy.
+    array[63..].copy_from_slice(&[TMS5220, 1, 3, 1, 1, 2]);
+    assert_eq!(numbers_of(&chip_of(&array))[63..], [TMS5220, 0, 0, 1, 1, 2]);
     array[63] = TMS5220C;
-    assert_eq!(numbers_of(&chip_of(&array))[63..], [TMS5220C, 1, 3, 1, 1]);
+    assert_eq!(numbers_of(&chip_of(&array))[63..], [TMS5220C, 1, 3, 1, 1, 2]);
     // Levels of 17 and 255 beside 16 bytes: refused, printed as given.
     for level in [17, 255] {
         let mut numbers = numbers_of(&speech(&[1; 16], 0));
@@ -2442,7 +2685,7 @@ fn bad_scripts() {
     assert_eq!(played(b"U\xFF\xFF\xFF\xFF"), "bad script\n");
     assert_eq!(played(b"V\0\0\0\0\nP"), "V 5\nbad script\n");
     let state = state_record(&[0; CHIP_NUMBERS]);
-    assert_eq!(state.len(), 545);
+    assert_eq!(state.len(), 553);
     for cut in 1..state.len() {
         assert_eq!(played(&state[..cut]), "bad script\n");
     }

@@ -15,8 +15,8 @@ pub const MOST_SCRIPT_BYTES: usize = 1_048_576;
 const LONGEST_RUN: i64 = 8_192;
 // trace: "each 9,999 before the call".
 const UNTOUCHED: i64 = 9_999;
-// trace: "`S` | as many i64 as `C` has numbers"; "545 [bytes] from §9 on".
-pub const CHIP_NUMBERS: usize = 68;
+// trace: "`S` | as many i64 as `C` has numbers"; "553 [bytes] from §12 on".
+pub const CHIP_NUMBERS: usize = 69;
 
 /// What is left of the script.
 struct Script<'a> {
@@ -321,7 +321,7 @@ fn short_text(short: &Short) -> String {
     numbers_text(&[short.begun, short.used_up, short.missing])
 }
 
-/// The chip's 68 numbers, in the order of the trace format's table.
+/// The chip's 69 numbers, in the order of the trace format's table.
 pub fn numbers_of(chip: &Chip) -> Vec<i64> {
     let mut numbers = vec![
         chip.mode,
@@ -340,11 +340,11 @@ pub fn numbers_of(chip: &Chip) -> Vec<i64> {
     numbers.extend([chip.targets.energy, chip.targets.pitch]);
     numbers.extend(&chip.targets.k[1..=10]);
     numbers.extend(&chip.memory[1..=10]);
-    numbers.extend([chip.device, chip.v, chip.rr, chip.hold, chip.order]);
+    numbers.extend([chip.device, chip.v, chip.rr, chip.hold, chip.order, chip.busy]);
     numbers
 }
 
-/// The chip with these 68 numbers; `No. n` of the table stands at n - 1.
+/// The chip with these 69 numbers; `No. n` of the table stands at n - 1.
 pub fn chip_of(numbers: &[i64; CHIP_NUMBERS]) -> Chip {
     let no = |n: usize| numbers[n - 1];
     let mut fifo = [0; 16];
@@ -374,6 +374,7 @@ pub fn chip_of(numbers: &[i64; CHIP_NUMBERS]) -> Chip {
         rr: rate_number(no(64), no(66)),
         hold: no(67),
         order: no(68),
+        busy: no(69),
     }
 }
 
