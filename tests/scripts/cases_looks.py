@@ -66,8 +66,9 @@ def looks_around_reads():
         out += load_address(23) + write(READ_BYTE) + look() + write(READ_BYTE) + look() + write(NOTHING) + look() + both()
         for nibble in (4, 0, 0):
             out += write(load(nibble)) + look() + acknowledge() + read()
-        out += write(READ_AND_BRANCH) + both() + write(READ_BYTE) + look() + write(SPEAK) + look() + both()
-        out += write(RESET) + look()
+        out += write(READ_BYTE) + look() + write(SPEAK) + look() + both() + write(RESET) + look()
+        # behind a branch a byte has to wait; the look does not
+        out += write(READ_AND_BRANCH) + both() + write(READ_BYTE) + look()
     return out
 
 

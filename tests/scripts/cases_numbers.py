@@ -65,12 +65,12 @@ def numbers_images():
 
 # The end of the longest image: read, branched at, spoken to its last bit, and loads from the last position.
 def last_positions(tail):
-    out = b''
+    out = voice(voices.plain())
     for nibble in range(5):
         out += silent(position=LAST_POSITION, nibble=nibble) + write(load(0xD))
     for position in (LAST_POSITION - 17, LAST_POSITION - 9, LAST_POSITION - 8, LAST_POSITION - 7, LAST_POSITION):
-        out += silent(position=position, interrupt=1) + write(READ_AND_BRANCH, READ_BYTE) + read() + write(SPEAK)
-    out += voice(voices.plain()) + power_up() + load_address(tail) + write(SPEAK) + step() + run(599) + step()
+        out += silent(position=position, interrupt=1) + branch() + write(READ_BYTE) + read() + write(SPEAK)
+    out += power_up() + load_address(tail) + write(SPEAK) + step() + run(599) + step()
     # frames that end with the last bit, and one that lacks bits there
     for position in (LAST_POSITION - 4, LAST_POSITION - 3, LAST_POSITION):
         out += silent(mode=ROM, sounding=1, position=position) + step() + run(200) + step()
@@ -81,7 +81,7 @@ def last_positions(tail):
 def across_chips():
     out = b''
     for address in (16383, 16384, 81919):
-        out += power_up() + load_address(address) + write(READ_AND_BRANCH, READ_BYTE) + read()
+        out += power_up() + load_address(address) + branch() + write(READ_BYTE) + read()
     return out
 
 

@@ -144,7 +144,7 @@ def orders_and_rom():
     data = pack(SPEECH[2] + STOP) + b'\x2c\x11\x02\xc0' + pack(SPEECH[3] + SPEECH[0] + STOP)
     out = image(data) + voice(voices.soft(5))
     for up, length in LEAST:
-        out += up + write(READ_BYTE) + read() + write(READ_BYTE) + read() + load_address(4) + write(READ_AND_BRANCH, READ_BYTE)
+        out += up + write(READ_BYTE) + read() + write(READ_BYTE) + read() + load_address(4) + branch() + write(READ_BYTE)
         # from bit 15, behind the stop
         out += load_address(0) + write(SPEAK) + step() + run(length - 1) + step() + write(READ_BYTE, READ_BYTE) + read()
         out += load_address(6) + write(SPEAK) + step() + run(length - 1) + step()

@@ -5,7 +5,7 @@ from states import LEAST_FIRST, MOST_FIRST, TMS5220, TMS5220C
 
 MOST_SCRIPT_BYTES = 1048576
 LONGEST_RUN = 8192
-CHIP_NUMBERS = 68
+CHIP_NUMBERS = 69
 
 
 # ---- one function for each letter; what it returns is the record's bytes
@@ -102,6 +102,11 @@ def load(nibble):
 def frame_rate(v, rr):
     """Load Frame Rate, the free bits zero."""
     return 4 * v + rr
+
+
+def branch():
+    """Read and Branch, and the two samples that it takes; with a bad voice file these are refused, and the next byte waits."""
+    return write(READ_AND_BRANCH) + run(2)
 
 
 def load_address(address):

@@ -1,4 +1,4 @@
-"""States of the chip for S records: valid ones, and ones that break a range (01, "State ranges", and 02, §5, §3 and §9)."""
+"""States of the chip for S records: valid ones, and ones that break a range (01, "State ranges"; 02, §5, §3, §9 and §12)."""
 
 IDLE, ROM, WAITING, EXTERNAL = range(4)
 TMS5220, TMS5220C = range(2)
@@ -19,7 +19,7 @@ MEMORY = [f'memory {i}' for i in range(1, 11)]
 SOUND = ['sample', 'interval', 'noise', 'place'] + CURRENT + TARGET + MEMORY
 # the order of the trace format's table
 OF_01 = ['mode', 'position', 'nibble', 'pending', 'data', 'interrupt', 'level', 'used'] + FIFO + ['sounding'] + SOUND
-FIELDS = OF_01 + ['device', 'v', 'rr', 'hold', 'order']
+FIELDS = OF_01 + ['device', 'v', 'rr', 'hold', 'order', 'busy']
 
 # the ranges that hold in every mode
 RANGES = {'position': (0, LAST_POSITION), 'nibble': (0, 4), 'sample': (0, 24), 'interval': (0, 7), 'noise': (1, 8191),
@@ -34,7 +34,7 @@ RATES = {'v': (0, 1), 'rr': (0, 3)}
 # what an S record may hold
 FORMAT = {name: (0, 32767) for name in ['noise', 'place'] + CURRENT + TARGET}
 FORMAT.update({name: (-32768, 32767) for name in CURRENT[2:] + TARGET[2:] + MEMORY})
-FORMAT.update({name: (0, 255) for name in ['nibble', 'data', 'level', 'used', 'sample', 'interval', 'v', 'rr'] + FIFO})
+FORMAT.update({name: (0, 255) for name in ['nibble', 'data', 'level', 'used', 'sample', 'interval', 'v', 'rr', 'busy'] + FIFO})
 FORMAT.update({name: (0, 1) for name in ['pending', 'interrupt', 'sounding', 'device', 'hold', 'order']})
 FORMAT.update({'mode': (0, 3), 'position': (0, 2 ** 32 - 1)})
 
@@ -42,7 +42,7 @@ LEVELS = {IDLE: (0, 0), ROM: (0, 0), WAITING: (0, 8), EXTERNAL: (1, FIFO_BYTES)}
 
 
 def numbers(fields):
-    """The 68 numbers of a state."""
+    """The 69 numbers of a state."""
     assert all(FORMAT[name][0] <= fields[name] <= FORMAT[name][1] for name in FIELDS), fields
     assert fields['device'] == TMS5220C or fields['v'] == fields['rr'] == 0, fields
     return [fields[name] for name in FIELDS]

@@ -28,6 +28,11 @@ def some_calls(pick, most=6):
     return out
 
 
+def obeyed(command):
+    """A command, and the two samples that a branch takes, so that the next one is obeyed too where the voice file is good."""
+    return write(command) + (run(2) if command & 0x70 == READ_AND_BRANCH else b'')
+
+
 def good_image(pick):
     return image(images.any_image(pick) or b'\xff')
 
@@ -90,7 +95,7 @@ def commands(pick):
     out = good_image(pick) + good_voice(pick) + power_up()
     for _ in range(pick.between(4, 30)):
         command = pick.one_of(COMMANDS[:6] + pick.one_of([[], [SPEAK_EXTERNAL], [RESET]]))
-        out += write(command + pick.below(16) + 128 * pick.below(2))
+        out += obeyed(command + pick.below(16) + 128 * pick.below(2))
         if pick.chance(30):
             out += pick.one_of([read(), read(2), step(), run(200), run(401)])
     return out
@@ -106,7 +111,7 @@ def addresses(pick):
         position = pick.one_of([pick.below(end + 9), near, end, far, LAST_POSITION])
         out += state_of(states.powered_up(position=position, nibble=pick.below(5), interrupt=pick.below(2)))
         for _ in range(pick.between(1, 8)):
-            out += write(pick.one_of([READ_BYTE, READ_AND_BRANCH, load(pick.below(16)), NOTHING, SPEAK_EXTERNAL]))
+            out += obeyed(pick.one_of([READ_BYTE, READ_AND_BRANCH, load(pick.below(16)), NOTHING, SPEAK_EXTERNAL]))
             out += read(pick.below(2))
     return out
 
@@ -200,7 +205,7 @@ def largest_images(pick):
         address = pick.one_of([size - len(tail), near, across, pick.below(size)])
         speech = write(SPEAK) + step() + run(200, 200) + read()
         out += power_up() + load_address(address)
-        out += pick.one_of([write(READ_BYTE, READ_BYTE) + read(), write(READ_AND_BRANCH, READ_BYTE), speech])
+        out += pick.one_of([write(READ_BYTE, READ_BYTE) + read(), branch() + write(READ_BYTE), speech])
         out += walk(address) + frame_at(min(8 * address + pick.below(60), 2 ** 32 - 1))
     # the image changes under a speaking chip, to one of the other kind and to a short one
     other = bytes(2 * images.MOST_IMAGE_BYTES + 1 - size)
@@ -335,7 +340,7 @@ def rate_commands(pick):
     out = good_image(pick) + good_voice(pick) + pick.one_of([power_up_c(), power_up_c(), power_up_c(), power_up()])
     for _ in range(pick.between(4, 30)):
         command = pick.one_of([READ_BYTE, READ_AND_BRANCH, load(0), SPEAK, RESET, pick.one_of([RESET, SPEAK_EXTERNAL])])
-        out += write(pick.one_of([rate_byte(pick), command + pick.below(16) + 128 * pick.below(2)]))
+        out += obeyed(pick.one_of([rate_byte(pick), command + pick.below(16) + 128 * pick.below(2)]))
         if pick.chance(30):
             out += pick.one_of([read(), read(2), step(), run(pick.one_of(RATED_LENGTHS)), run(401)])
     return out
@@ -423,7 +428,7 @@ def looks_at_data(pick):
     out = good_image(pick) + pick.one_of([power_up(), power_up_c()])
     for _ in range(pick.between(4, 20)):
         byte = pick.one_of([READ_BYTE, READ_BYTE, READ_BYTE, load(pick.below(16)), READ_AND_BRANCH, NOTHING, pick.below(256)])
-        out += write(byte + 128 * pick.below(2) & 255) + (any_looks(pick, 3) if pick.chance(70) else b'')
+        out += obeyed(byte + 128 * pick.below(2) & 255) + (any_looks(pick, 3) if pick.chance(70) else b'')
     return out
 
 
@@ -711,7 +716,7 @@ def order_commands(pick):
         _, order, up = any_power_up(pick)
         out += up
         for _ in range(pick.below(6)):
-            out += write(pick.one_of(COMMANDS) + pick.below(16) + 128 * pick.below(2))
+            out += obeyed(pick.one_of(COMMANDS) + pick.below(16) + 128 * pick.below(2))
             out += some_calls(pick, 2) if pick.chance(30) else b''
         if pick.chance(40):
             out += write(SPEAK_EXTERNAL, *images.fed(order, images.any_frames(pick, 4))) + step() + some_calls(pick, 2)
