@@ -18,15 +18,16 @@ from pick import Pick
 from script import *
 
 
-# State ranges: the edges of each range, inside and outside by one, told by a look, which changes nothing, and then by an
-# acknowledge and a read; every fifth also by the other calls.
+# State ranges: the edges of each range, inside and outside by one, told by a look, which changes nothing; every third also by an
+# acknowledge and a read, every fifth by the other calls.
 def state_edges():
     out = image(b'\x00\xff') + voice(voices.soft(2))
     for at, fields in enumerate(fields for edges in states.EDGES for fields in edges):
         out += chip(fields) + look()
         if at % 5 == 0:
             out += step() + run(2) + write(SPEAK)
-        out += acknowledge() + read()
+        if at % 3 == 0:
+            out += acknowledge() + read()
     return out
 
 

@@ -62,12 +62,13 @@ def loads():
     return out
 
 
-# What restarts the nibble and what does not, and what ends pending data.
+# What restarts the nibble and what does not, and what ends pending data. Each command with the top bit that it has not in
+# every_command, where no data is pending.
 def restarts():
     out = image(bytes([0x12, 0x34, 0x56, 0x78, 0xFF] * 4))
     for command in COMMANDS:
-        for top in (0, 0x80):
-            out += silent(position=19, nibble=3, interrupt=1, pending=top >> 7, data=top) + write(command + top + 9) + read(2)
+        top = 0 if command & 0x10 else 0x80
+        out += silent(position=19, nibble=3, interrupt=1, pending=1, data=0x5A) + write(command + top + 9) + read(2)
     return out
 
 

@@ -55,12 +55,12 @@ def targets(currents):
     return {name.replace('current', 'target'): value for name, value in currents.items()}
 
 
-# Interpolation at each interval: up and down, by less than the divisor and by much, all twelve numbers.
+# Interpolation at each interval: up and down, by less than the divisor and by more, all twelve numbers.
 def interpolations():
     out = image(b'\x00') + voice(voices.soft())
     current = {**dict.fromkeys(CURRENT[:2], 500), **{name: 20 * i - 100 for i, name in enumerate(CURRENT[2:])}}
     for interval in range(8):
-        for far in (1, 5, 9):
+        for far in (1, 9):
             target = {name: current[name] + (far + max(i - 2, 0)) * (-1) ** i for i, name in enumerate(CURRENT)}
             # interval 0 takes a frame, a silence, whose energy target is 0
             mode = IDLE if interval else ROM
