@@ -3,6 +3,7 @@ some of each random theme."""
 import states
 import themes
 import voices
+from cases_busy import BUSY_TOPICS
 from cases_commands import *
 from cases_hold import HOLD_TOPICS
 from cases_looks import LOOK_TOPICS
@@ -55,13 +56,13 @@ def longest_run():
     return image(data) + voice(voices.soft()) + power_up() + write(SPEAK) + run(LONGEST_RUN) + read()
 
 
-# numbers_nine_ff leads on from numbers_status, and the first topic of the rates from numbers_images; the others begin with what
-# they need
+# numbers_nine_ff leads on from numbers_status, the first topic of the rates from numbers_images, and those of the branches from
+# their first; the others begin with what they need
 TOPICS = [first_chip, numbers_walks, numbers_addresses, numbers_status, numbers_nine_ff, numbers_nine_00, numbers_seventeenth,
           numbers_voices, order_of_checks, frames_at_bits, walks, loads, restarts, read_bytes, every_command, statuses,
           ninth_byte, fifo_ends, interrupts, external_paces, spoken_kinds, rom_ends, image_changes, boundaries, interpolations,
           excitations, filters, state_edges, voice_faults, some_of_each_theme, longest_run, numbers_images]
-TOPICS += RATE_TOPICS + LOOK_TOPICS + HOLD_TOPICS + SHORT_TOPICS + ORDER_TOPICS
+TOPICS += RATE_TOPICS + LOOK_TOPICS + HOLD_TOPICS + SHORT_TOPICS + ORDER_TOPICS + BUSY_TOPICS
 
 
 def stored_script():

@@ -162,6 +162,15 @@ def order_edges():
     yield in_mode(EXTERNAL, order=LEAST_FIRST, device=TMS5220C, used=8)
 
 
+def busy_edges():
+    """Busy samples, 0..2 in idle and 0 in the other modes, on both devices; in idle and in waiting by turns on a chip that sounds
+    and on one that does not. The states of the other edges have 0."""
+    for mode in (IDLE, ROM, WAITING, EXTERNAL):
+        for at, busy in enumerate((1, 2, 3, 255)):
+            fields = {'mode': mode, 'device': (mode + at) % 2, 'busy': busy}
+            yield powered_up(**fields) if mode in (IDLE, WAITING) and at % 2 == 0 else in_mode(**fields)
+
+
 # ---- random states
 
 def any_sound(pick):
@@ -210,6 +219,13 @@ def any_broken_rates(pick):
     v = pick.one_of([0, 1, 2, 255, pick.between(2, 255)])
     rr = pick.one_of([0, 3, 4, 255, pick.between(4, 255)])
     return {'device': TMS5220C, 'v': v, 'rr': rr}
+
+
+def any_busy(pick, mode):
+    """Busy samples for a state in this mode, most often valid ones."""
+    if pick.chance(20):
+        return pick.one_of([1, 2, 3, 255, pick.below(256)])
+    return pick.between(1, 2) if mode == IDLE else 0
 
 
 def any_held_sound(pick):

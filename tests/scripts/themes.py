@@ -726,14 +726,116 @@ def order_commands(pick):
 OF_ORDERS = [themes_in_order, ordered_external_speech, order_states, order_commands]
 
 
+# ---- the time that a branch takes
+
+def branch_byte(pick):
+    """Read and Branch, any free bits."""
+    return READ_AND_BRANCH + pick.below(16) + 128 * pick.below(2)
+
+
+def any_pause(pick, most):
+    """What may stand behind a branch: steps, short runs, looks and reads, bytes that have to wait if it is too early for them."""
+    out = b''
+    for _ in range(pick.below(most + 1)):
+        byte = pick.one_of([READ_AND_BRANCH, RESET, SPEAK, load(0), rate_byte(pick), pick.below(256)])
+        out += pick.one_of([step(), step(), run(pick.below(4)), run(pick.one_of([0, 1, 2, 25])), any_looks(pick, 2), write(byte)])
+    return out
+
+
+def with_branches(pick, script):
+    """The same records with branches behind them at times, and states that are busy; outside idle that is out of range."""
+    often = pick.one_of([4, 12, 30])
+    out = b''
+    for start, end, letter, _ in records(script):
+        record = script[start:end]
+        if letter == b'S' and pick.chance(70):
+            record = with_fields(record, busy=states.any_busy(pick, record[1]))
+        out += record
+        if pick.chance(often):
+            out += write(branch_byte(pick)) + any_pause(pick, 4)
+    return out
+
+
+# Any of the themes above with branches that take their time.
+def branches_in_themes(pick):
+    return with_branches(pick, pick.one_of(OF_01 + OF_RATES + OF_LOOKS + OF_HOLDS + OF_CUTS)(pick))
+
+
+# An image with a table of words in front: the address of an entry, a branch, a pause, Speak. At times it comes too early, and
+# once more after two samples.
+def word_tables(pick):
+    v, up = any_device(pick)
+    count = pick.between(1, 4)
+    words, data = b'', b''
+    for _ in range(count):
+        # of a word's sixteen bits fourteen count
+        words += struct.pack('<H', 2 * count + len(data) + 16384 * pick.below(4))
+        data += images.any_rated_phrase(pick, 3) if v else images.any_phrase(pick, 3)
+    out = image(words + data) + hushed_voice(pick) + up
+    for _ in range(pick.between(1, 4)):
+        # an address in the middle of an entry, or behind the table, now and then
+        address = pick.one_of([2 * pick.below(count)] * 5 + [pick.below(len(words + data))])
+        out += load_address(address) + write(branch_byte(pick)) + any_pause(pick, 3)
+        out += pick.one_of([b'', step(2), run(2)]) + write(SPEAK) + pick.one_of([b'', run(2) + write(SPEAK)]) + step()
+        out += rated_calls(pick, 3) + pick.one_of([run(900), write(RESET), run(300)])
+    return out
+
+
+# A branch while the frame of a stop sounds, often across the end of an interval or of the frame; bytes at each sample, as a host
+# writes them that tries again until one is taken.
+def branches_in_stops(pick):
+    v, rr, up = any_told_device(pick)
+    rates = [pick.below(4) if v else rr for _ in range(pick.between(1, 3))]
+    row = [images.any_changing_frames(pick, 1, False) for _ in rates[1:]] + [images.STOP]
+    text = ''.join(images.rated(rate, frame) if v else frame for rate, frame in zip(rates, row))
+    lengths = [200 - 50 * rate for rate in rates]
+    # two words that lead to each other
+    out = image(b'\x02\x00\x00\x40' + images.pack(text, pick.one_of('01'))) + hushed_voice(pick)
+    for _ in range(pick.between(1, 3)):
+        last = lengths[-1]
+        samples = pick.one_of([0, 22, 23, 24, last - 3, last - 2, last - 1, last, pick.below(last)])
+        out += up + load_address(4) + write(SPEAK) + run(sum(lengths[:-1])) + step() + run(samples)
+        out += load_address(2 * pick.below(2)) + write(branch_byte(pick))
+        byte = pick.one_of([READ_BYTE, SPEAK, NOTHING, load(0), RESET, READ_AND_BRANCH, pick.below(256)])
+        out += pick.one_of([(write(byte) + step()) * 4, any_pause(pick, 5), run(pick.below(4)) + write(byte)])
+    return out
+
+
+# States that are busy or not, valid or not, before the ends of intervals and frames, and calls on them; with an image that is
+# empty and a voice file that is bad at times.
+def busy_states(pick):
+    out = good_image(pick) + (hushed_voice(pick) if pick.chance(40) else b'')
+    for _ in range(pick.between(1, 4)):
+        fields = states.any_valid(pick, (0, 200))
+        # the mode that may be busy, more often than the others
+        if fields['mode'] != states.IDLE and pick.chance(60):
+            fields = states.powered_up(position=pick.below(99), nibble=pick.below(5), interrupt=pick.below(2))
+        if fields['sounding'] and pick.chance(60):
+            fields.update({'sample': pick.one_of([0, 23, 24]), 'interval': pick.one_of([0, 7, pick.below(8)])})
+        if pick.chance(40):
+            fields.update(states.any_rates(pick))
+        fields['busy'] = states.any_busy(pick, fields['mode'])
+        out += state_of(fields) + any_looks(pick, 2)
+        if pick.chance(15):
+            out += pick.one_of([image(b''), voice(b'')]) + step() + run(pick.below(4)) + write(pick.below(256))
+            out += good_image(pick) + hushed_voice(pick)
+        out += any_pause(pick, 4) + write(pick.below(256)) + pick.one_of([b'', step(2) + write(branch_byte(pick))])
+        out += any_pause(pick, 3)
+    return out
+
+
+OF_BUSY = [branches_in_themes, word_tables, branches_in_stops, busy_states]
+
+
 def weighed(of, often):
     """A list of themes of the length of the first one; the theme that stands for many comes oftener."""
     return of + [often] * (len(OF_01) - len(of))
 
 
-# a sixth of the themes of a random script are of each list
+# a seventh of the themes of a random script are of each list
 ALL = OF_01 + weighed(OF_RATES, themes_of_01) + weighed(OF_LOOKS, looks_in_themes) + weighed(OF_HOLDS, hold_states)
 ALL += OF_CUTS * (len(OF_01) // len(OF_CUTS)) + OF_ORDERS * (len(OF_01) // len(OF_ORDERS))
+ALL += OF_BUSY * (len(OF_01) // len(OF_BUSY))
 
 
 def any_script(pick, size):
@@ -749,7 +851,7 @@ def any_script(pick, size):
     while len(out) < size:
         theme = pick.one_of(ALL)
         part = theme(pick)
-        # the lists before §9's have most significant first; half of what is made of them is played with the other order
+        # the lists but §9's have most significant first; half of what is made of them is played with the other order
         out += in_order(pick, part) if theme not in OF_ORDERS and pick.chance(50) else part
     if pick.chance(10):
         too_long, cut = [run(LONGEST_RUN + 1), run(2 ** 32 - 1)], [image(b'\xff')[:3], voice(bytes(9))[:-1]]
