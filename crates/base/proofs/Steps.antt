@@ -35,10 +35,6 @@ module _ {S A : Type 0} (step : S → S × A) where
 
   -- ---- a state that a step leaves as it is
 
-  pub same-state : (n : ℕ) {s : S} {v : A} → step s ≡ (s, v) → stateAfter step n s ≡ s
-  same-state zero e = refl
-  same-state (suc n) e = ap (λ (r : S × A). stateAfter step n (r .0)) e ∙ same-state n e
-
   pub same-outputs : (n : ℕ) {s : S} {v : A} → step s ≡ (s, v) → outputs step n s ≡ replicate n v
   same-outputs zero e = refl
   same-outputs (suc n) {s} {v} e = ap (λ (r : S × A). r .1 ∷ outputs step n (r .0)) e ∙ ap (λ (l : List A). v ∷ l) (same-outputs n e)

@@ -1,5 +1,5 @@
 -- The units of time and the ways between them (01, "The module"; 004, section 2).
-use Prim.Native.Nat.{ℕ, _+_, _*_, _/_, _%_}
+use Prim.Native.Nat.{ℕ, _+_, _*_, _-_, _/_, _%_}
 use Rattle.base.specs.declared.units.Frames.{Frames}
 use Rattle.base.specs.declared.units.Intervals.{Intervals}
 use Rattle.base.specs.declared.units.Samples.{Samples}
@@ -51,3 +51,7 @@ samplesSum s t = samples (s .0 + t .0)
 -- of intervals
 abbrev pub intervalsSum : Intervals → Intervals → Intervals
 intervalsSum i j = intervals (i .0 + j .0)
+
+-- some samples without others, not below 0
+abbrev pub samplesLess : Samples → Samples → Samples
+samplesLess s t = samples (s .0 - t .0)

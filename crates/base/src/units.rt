@@ -3,7 +3,7 @@
 // are those here, by 25 and 8.
 ghost use mathlib.Core.Path.{_≡_};
 ghost use Prim.Native.Nat.{_+_, _^_, _≤_, _<_};
-ghost use Rattle.base.specs.Units.{frames, intervals, samples, intervalsOf, samplesOf, wholeIntervals, withinInterval, withinFrame, samplesSum, intervalsSum};
+ghost use Rattle.base.specs.Units.{frames, intervals, samples, intervalsOf, samplesOf, wholeIntervals, withinInterval, withinFrame, samplesSum, samplesLess, intervalsSum};
 
 pub struct Frames(u32);
 
@@ -90,6 +90,17 @@ impl Samples {
         ensures { λ r. ⌜ r ≡ samplesSum self more ⌝ }
     {
         Samples(self.0 + more.0)
+    }
+
+    // These samples without others, and none where the others are as many or more.
+    pub fn less(self, others: Samples) -> Samples
+        ensures { λ r. ⌜ r ≡ samplesLess self others ⌝ }
+    {
+        if self.0 < others.0 {
+            Samples(0)
+        } else {
+            Samples(self.0 - others.0)
+        }
     }
 
     // The whole intervals in these samples, and what is left of the samples without them.

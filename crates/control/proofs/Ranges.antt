@@ -5,7 +5,7 @@ use mathlib.Core.Bool.{true}
 use mathlib.Core.List.{[], _∷_}
 use Prim.Native.Nat.{ℕ, _≤_}
 use native.Mathlib.Omega.{arith}
-use Rattle.base.proofs.Booleans.{all-true}
+use Rattle.base.proofs.Booleans.{all-true, conj-true}
 use Rattle.address.specs.Addresses.{positionLimit, addressValid}
 use Rattle.address.proofs.Ranges.{address-ranges}
 use Rattle.clock.specs.Counters.{lastSample, lastInterval, clockValid}
@@ -13,9 +13,9 @@ use Rattle.clock.proofs.Ranges.{clock-ranges}
 use Rattle.fifo.specs.Laws.{Fits}
 use Rattle.fifo.proofs.Ranges.{FifoRanges, fifo-ranges}
 use Rattle.rates.proofs.Rates.{loaded-valid}
-use Rattle.control.specs.Types.{Mode, Idle, Rom, Waiting, External, Device, Tms5220, Tms5220C, Fifo, Control}
+use Rattle.control.specs.Types.{Mode, Idle, Rom, Waiting, External, Device, Tms5220, Tms5220C, Fifo, Port, Control}
 use Rattle.control.specs.Device.{atPowerUp, loadedRate, deviceValid}
-use Rattle.control.specs.Validity.{speaks, leastLevel, mostLevel, mostUsed, fifoValid, portValid, controlValid}
+use Rattle.control.specs.Validity.{speaks, leastLevel, mostLevel, mostUsed, fifoValid, pendingValid, byteValid, busyValid, portValid, controlValid}
 
 -- the conditions of a valid control
 pub record ControlRanges (k : Control) : Type 0 where
@@ -36,6 +36,20 @@ control-ranges k h =
 pub control-in-ranges : (k : Control) → ControlRanges k → controlValid k ≡ true
 unfolding controlValid
 control-in-ranges k r = rw (r .address, r .fifo, r .port, r .clock, r .device)
+
+-- the conditions of a valid port
+pub record PortRanges (m : Mode) (p : Port) : Type 0 where
+  pub pending : pendingValid m p ≡ true
+  pub byte : byteValid p ≡ true
+  pub busy : busyValid m p ≡ true
+
+pub port-ranges : (m : Mode) (p : Port) → portValid m p ≡ true → PortRanges m p
+port-ranges m p h =
+    let r = all-true (pendingValid m p ∷ byteValid p ∷ busyValid m p ∷ []) h in
+    record { pending = r .0; byte = r .1 .0; busy = r .1 .1 .0 }
+
+pub port-in-ranges : (m : Mode) (p : Port) → PortRanges m p → portValid m p ≡ true
+port-in-ranges m p r = conj-true (pendingValid m p ∷ byteValid p ∷ busyValid m p ∷ []) (r .pending, (r .byte, (r .busy, tt)))
 
 -- the address register and the clock of a valid control
 pub valid-ranges : (k : Control) → controlValid k ≡ true

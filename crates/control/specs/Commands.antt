@@ -1,11 +1,12 @@
 -- The commands (01, "Commands, FIFO, status"), and when a byte is not taken (01, "Refusal numbers").
-use mathlib.Core.Bool.{Bool, true, false, not}
+use mathlib.Core.Bool.{Bool, true, false, not, _||_}
 use mathlib.Core.List.{List, [], _∷_}
 use Prim.Native.Nat.{ℕ, _+_, _*_, _/_, _%_}
 use lib.Dec.{eqb, leb}
 use lib.ListN.{length, getD}
-use Rattle.control.specs.Types.{Mode, Idle, Rom, Waiting, External, Command, LoadFrameRate, ReadByte, ReadAndBranch, LoadAddress, Speak, SpeakExternal, Reset}
+use Rattle.control.specs.Types.{Mode, Idle, Rom, Waiting, External, Control, Command, LoadFrameRate, ReadByte, ReadAndBranch, LoadAddress, Speak, SpeakExternal, Reset}
 use Rattle.fifo.specs.Buffer.{fifoSize}
+use Rattle.control.specs.State.{isBusy}
 
 -- the middle code, weights 40, 20, 10, chooses; the top bit is ignored. Codes 000 and 010 are Load Frame Rate (02, §5), which does
 -- nothing on the TMS5220
@@ -32,6 +33,10 @@ waits Idle level k = false
 waits Rom level k = not (isReset k)
 waits Waiting level k = eqb level fifoSize
 waits External level k = eqb level fifoSize
+
+-- and every byte, Reset too, while a branch keeps the chip busy (02, §12)
+abbrev pub waitsNow : Control → Command → Bool
+waitsNow k c = isBusy (k .port) || waits (k .mode) (k .fifo .level) c
 
 -- 2 BEYOND, of a command at a position: Read Byte with under 8 bits left; Read and Branch with either byte outside the image;
 -- Speak with no bit left

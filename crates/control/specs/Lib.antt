@@ -4,3 +4,4 @@ pub mod State
 pub mod Validity
 pub mod Commands
 pub mod Status
+pub mod Laws

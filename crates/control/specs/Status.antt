@@ -15,12 +15,12 @@ busByte k = cond (k .port .pending) (k .port .«data») (statusOf k)
 
 -- the port without a data byte: after every taken command but Read Byte, and after a data read
 abbrev pub noData : Port → Port
-noData p = record { pending = false; «data» = 0; interrupt = p .interrupt }
+noData p = record { pending = false; «data» = 0; interrupt = p .interrupt; busy = p .busy }
 
 -- the interrupt is set, and stays set
 abbrev pub raisedPort : Bool → Port → Port
-raisedPort on p = record { pending = p .pending; «data» = p .«data»; interrupt = p .interrupt || on }
+raisedPort on p = record { pending = p .pending; «data» = p .«data»; interrupt = p .interrupt || on; busy = p .busy }
 
 -- a data read takes the data byte, a status read clears the interrupt
 abbrev pub acknowledgedPort : Port → Port
-acknowledgedPort p = cond (p .pending) (noData p) (record { pending = p .pending; «data» = p .«data»; interrupt = false })
+acknowledgedPort p = cond (p .pending) (noData p) (record { pending = p .pending; «data» = p .«data»; interrupt = false; busy = p .busy })

@@ -1,11 +1,12 @@
 -- State ranges (01) of the control.
 use mathlib.Core.Bool.{Bool, true, false, not, _&&_, _||_}
 use Prim.Native.Nat.{ℕ}
-use lib.Dec.{eqb}
+use lib.Dec.{eqb, leb}
 use Rattle.address.specs.Addresses.{addressValid}
 use Rattle.clock.specs.Counters.{clockValid}
 use Rattle.fifo.specs.Buffer.{fifoInside}
 use Rattle.control.specs.Device.{deviceValid}
+use Rattle.control.specs.State.{branchTime, isBusy}
 use Rattle.control.specs.Types.{Mode, Idle, Rom, Waiting, External, Fifo, Port, Control}
 
 -- a speaking mode
@@ -47,9 +48,21 @@ mostUsed External = 7
 abbrev pub fifoValid : Mode → Fifo → Bool
 fifoValid m f = fifoInside (leastLevel m) (mostLevel m) (mostUsed m) f
 
--- pending data: mode idle. No pending data: data byte 0
+-- pending data: mode idle
+abbrev pub pendingValid : Mode → Port → Bool
+pendingValid m p = not (p .pending) || isIdle m
+
+-- no pending data: data byte 0
+abbrev pub byteValid : Port → Bool
+byteValid p = p .pending || eqb (p .«data») 0
+
+-- busy 0..2, above 0 only in idle (02, §12)
+abbrev pub busyValid : Mode → Port → Bool
+busyValid m p = leb (p .busy .0) branchTime && (not (isBusy p) || isIdle m)
+
+-- the port's ranges
 abbrev pub portValid : Mode → Port → Bool
-portValid m p = (not (p .pending) || isIdle m) && (p .pending || eqb (p .«data») 0)
+portValid m p = pendingValid m p && byteValid p && busyValid m p
 
 -- the control's ranges
 unfoldable pub controlValid : Control → Bool

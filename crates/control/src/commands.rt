@@ -4,7 +4,8 @@ ghost use Prim.Native.Nat.{_≤_};
 ghost use lib.ListN.{length};
 ghost use Rattle.rom.specs.Bits.{imageLimit};
 ghost use Rattle.address.specs.Addresses.{positionLimit};
-ghost use Rattle.control.specs.Commands.{commandOf, isReset, waits, beyondAt, beyond};
+ghost use Rattle.control.specs.Commands.{commandOf, isReset, waits, waitsNow, beyondAt, beyond};
+use crate::state::Control;
 use crate::state::Mode;
 use fifo::Fifo;
 
@@ -69,8 +70,8 @@ impl Command {
 }
 
 impl Mode {
-    // Whether a byte of a command waits, with `level` bytes held.
-    pub fn waits(self, level: u8, command: Command) -> bool
+    // Whether the mode has a byte of a command wait, with `level` bytes held.
+    fn waits(self, level: u8, command: Command) -> bool
         ensures { λ r. ⌜ r ≡ waits self level command ⌝ }
     {
         match self {
@@ -92,5 +93,16 @@ impl Mode {
             Mode::Waiting => false,
             Mode::External => false,
         }
+    }
+}
+
+impl Control {
+    // Whether a byte of a command waits: a branch keeps the chip busy, or the mode has it wait.
+    pub fn waits(self, command: Command) -> bool
+        ensures { λ r. ⌜ r ≡ waitsNow self command ⌝ }
+    {
+        let mode = self.mode;
+        let port = self.port;
+        port.is_busy() | mode.waits(self.fifo.level, command)
     }
 }

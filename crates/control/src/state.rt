@@ -1,8 +1,9 @@
 // The control's value: its parts, power-up, and the control with one of its parts changed.
 ghost use mathlib.Core.Path.{_≡_};
-ghost use Rattle.control.specs.State.{powerUpControl, withMode, withAddress, withFifo, withPort, withClock, withDevice};
+ghost use Rattle.control.specs.State.{powerUpControl, withMode, withAddress, withFifo, withPort, withClock, withDevice, withBusy, isBusy, lessBusy};
 use crate::device::Device;
 use address::AddressRegister;
+use base::units::Samples;
 use clock::Clock;
 use fifo::BitOrder;
 use fifo::Fifo;
@@ -17,11 +18,13 @@ pub enum Mode {
     External,
 }
 
-// The bus side: the data byte that the next read gets, if one is pending, and the interrupt.
+// The bus side: the data byte that the next read gets, if one is pending, the interrupt, and the samples for which a branch still keeps
+// the chip busy.
 pub struct Port {
     pub pending: bool,
     pub data: u8,
     pub interrupt: bool,
+    pub busy: Samples,
 }
 
 // All of the chip but its sound. Nothing in it depends on a voice file or on the sound.
@@ -32,6 +35,26 @@ pub struct Control {
     pub port: Port,
     pub clock: Clock,
     pub device: Device,
+}
+
+impl Port {
+    // The samples that a branch keeps the chip busy.
+    pub const BRANCH_TIME: u64 = 2;
+
+    pub fn is_busy(self) -> bool
+        ensures { λ r. ⌜ r ≡ isBusy self ⌝ }
+    {
+        let busy = self.busy;
+        0 < busy.count()
+    }
+
+    pub fn with_busy(self, busy: Samples) -> Port
+        ensures { λ r. ⌜ r ≡ withBusy busy self ⌝ }
+    {
+        let mut port = self;
+        port.busy = busy;
+        port
+    }
 }
 
 impl Control {
@@ -52,6 +75,7 @@ impl Control {
                 pending: false,
                 data: 0,
                 interrupt: false,
+                busy: Samples::of(0),
             },
             clock,
             device,
@@ -98,6 +122,15 @@ impl Control {
         let mut control = self;
         control.port = port;
         control
+    }
+
+    // The control after some samples, of which a busy chip counts each.
+    pub fn less_busy(self, passed: Samples) -> Control
+        ensures { λ r. ⌜ r ≡ lessBusy (passed .0) self ⌝ }
+    {
+        let port = self.port;
+        let busy = port.busy;
+        self.with_port(port.with_busy(busy.less(passed)))
     }
 
     pub fn with_clock(self, clock: Clock) -> Control

@@ -40,10 +40,12 @@ impl Port {
     pub fn drop_data(self) -> Port
         ensures { λ r. ⌜ r ≡ noData self ⌝ }
     {
+        let busy = self.busy;
         Port {
             pending: false,
             data: 0,
             interrupt: self.interrupt,
+            busy,
         }
     }
 
@@ -51,10 +53,12 @@ impl Port {
     pub fn raise(self, on: bool) -> Port
         ensures { λ r. ⌜ r ≡ raisedPort on self ⌝ }
     {
+        let busy = self.busy;
         Port {
             pending: self.pending,
             data: self.data,
             interrupt: self.interrupt | on,
+            busy,
         }
     }
 
@@ -64,10 +68,12 @@ impl Port {
         if self.pending {
             self.drop_data()
         } else {
+            let busy = self.busy;
             Port {
                 pending: self.pending,
                 data: self.data,
                 interrupt: false,
+                busy,
             }
         }
     }

@@ -74,7 +74,10 @@ impl Port {
         ensures { λ r. ⌜ r ≡ portValid mode self ⌝ }
     {
         let idle = mode.is_idle();
-        (!self.pending | idle) & (self.pending | (self.data == 0))
+        let busy = self.busy;
+        (!self.pending | idle)
+            & (self.pending | (self.data == 0))
+            & ((busy.count() <= Port::BRANCH_TIME) & (!self.is_busy() | idle))
     }
 }
 

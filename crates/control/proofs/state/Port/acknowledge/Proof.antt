@@ -7,4 +7,4 @@ pub acknowledge-spec : {M : Type 1} → statement M
 acknowledge-spec =
     tie.close (tie.spec (λ c κs. search needs)
     (λ c. rw (c .before .if1 .taken) (c .drop-data .ensures))
-    (λ c. rw (c .if1 .left)))
+    (λ c. rw (c .before .if1 .left)))
