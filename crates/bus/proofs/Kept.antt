@@ -13,8 +13,9 @@ use lib.Seq.{drop-drop, drop-set-lt}
 use Rattle.fifo.specs.Buffer.{fifoSize, appended}
 use Rattle.control.specs.Device.{deviceValid, atPowerUp, loadedRate, SameKind}
 use Rattle.control.specs.Validity.{mostLevel, controlValid, speaks, leastLevel, mostUsed, fifoValid, portValid}
-use Rattle.control.specs.Commands.{waits, commandOf, beyondAt, beyond}
+use Rattle.control.specs.Commands.{waits, waitsNow, commandOf, beyondAt, beyond}
 use Rattle.control.proofs.Ranges.{control-ranges, mode-ranges, ControlRanges, control-in-ranges, power-up-device, loaded-device}
+use Rattle.control.proofs.Busy.{not-busy}
 use Rattle.base.proofs.Booleans.{by-test}
 use Rattle.rom.specs.Bits.{imageLimit}
 use Rattle.rom.proofs.Checks.{valid-length}
@@ -35,8 +36,8 @@ room-in Waiting level c h w = omega arith
 room-in External level c h w = let d = eqb-false level fifoSize w in omega (arith, d)
 
 -- where a byte does not wait, the FIFO has room
-pub room : (k : Control) (c : Command) → controlValid k ≡ true → waits (k .mode) (k .fifo .level) c ≡ false → k .fifo .level < fifoSize
-room k c v w = room-in (k .mode) (k .fifo .level) c (mode-ranges (k .mode) (k .fifo) (control-ranges k v .fifo) .at-most) w
+pub room : (k : Control) (c : Command) → controlValid k ≡ true → waitsNow k c ≡ false → k .fifo .level < fifoSize
+room k c v w = room-in (k .mode) (k .fifo .level) c (mode-ranges (k .mode) (k .fifo) (control-ranges k v .fifo) .at-most) (not-busy k c w .1)
 
 pub in-mode : (image : List ℕ) (k : Control) (b : ℕ) {m : Mode} {r : Accepted} → k .mode ≡ m → r ≡ acceptedIn m image k b → r ≡ accepted image k b
 unfolding accepted
@@ -50,7 +51,8 @@ reset-ranges k = record { address = refl; fifo = refl; port = refl; clock = refl
 nibble-small : (a i v : ℕ) → withNibble a i v < addressLimit
 nibble-small a i v = omega arith
 
-module _ (image : List ℕ) (small : length image ≤ imageLimit) (k : Control) (r : ControlRanges k) (idle : k .mode ≡ Idle) where
+module _ (image : List ℕ) (small : length image ≤ imageLimit) (k : Control) (r : ControlRanges k) (idle : k .mode ≡ Idle)
+    (none : k .port .busy .0 ≡ 0) where
   ranges : (k .address .position ≤ positionLimit) × (k .address .«next_nibble» < nibbles)
   ranges = address-ranges (k .address) (r .address)
 
@@ -69,18 +71,18 @@ module _ (image : List ℕ) (small : length image ≤ imageLimit) (k : Control) 
       fifo-in-range _ _ _ (k .fifo) (record { at-least = f .at-least; at-most = omega (arith, f .at-most); used-bits = f .used-bits; size = f .size; clear = f .clear })
 
   obeyed-ranges : (b : ℕ) (c : Command) → beyondAt image (k .address .position) c ≡ false → ControlRanges (obeyed image k b c .control)
-  obeyed-ranges b LoadFrameRate h = moved ranges (r .fifo) refl (r .clock) (loaded-device (k .device) b)
+  obeyed-ranges b LoadFrameRate h = moved ranges (r .fifo) (rw none) (r .clock) (loaded-device (k .device) b)
   obeyed-ranges b ReadByte h =
       let e = leb-true (k .address .position + 8) (8 * length image) (not-false _ h) in
-      moved (omega (arith, e)) (r .fifo) (rw idle) (r .clock) (r .device)
+      moved (omega (arith, e)) (r .fifo) (rw (idle, none)) (r .clock) (r .device)
   obeyed-ranges b ReadAndBranch h =
       let e = leb-true (k .address .position / 8 + 2) (length image) (not-false _ h) in
-      moved (omega (arith, e)) (r .fifo) refl (r .clock) (r .device)
+      moved (omega (arith, e)) (r .fifo) (rw idle) (r .clock) (r .device)
   obeyed-ranges b LoadAddress h =
-      moved (omega (arith, nibble-small (k .address .position / 8 % addressLimit) (k .address .«next_nibble») (b % 16))) (r .fifo) refl (r .clock) (r .device)
-  obeyed-ranges b Speak h = moved (omega (arith, ranges)) empty refl refl (r .device)
+      moved (omega (arith, nibble-small (k .address .position / 8 % addressLimit) (k .address .«next_nibble») (b % 16))) (r .fifo) (rw none) (r .clock) (r .device)
+  obeyed-ranges b Speak h = moved (omega (arith, ranges)) empty (rw none) refl (r .device)
   obeyed-ranges b SpeakExternal h =
-      moved (omega (arith, ranges)) waiting refl (subst (λ (m : Mode). clockValid (speaks m) (k .clock) ≡ true) idle (r .clock)) (r .device)
+      moved (omega (arith, ranges)) waiting (rw none) (subst (λ (m : Mode). clockValid (speaks m) (k .clock) ≡ true) idle (r .clock)) (r .device)
   obeyed-ranges b Reset h = reset-ranges k
 
 -- ---- bytes for the FIFO
@@ -99,13 +101,13 @@ appended-valid m m′ f b h l u v =
 
 -- ---- a taken byte
 
-module _ (image : List ℕ) (small : length image ≤ imageLimit) (k : Control) (r : ControlRanges k) (b : ℕ) where
+module _ (image : List ℕ) (small : length image ≤ imageLimit) (k : Control) (r : ControlRanges k) (none : k .port .busy .0 ≡ 0) (b : ℕ) where
   buffered-ranges : fifoValid (k .mode) (appended (k .fifo) b) ≡ true → ControlRanges (buffered k b)
   buffered-ranges h = record { address = r .address; fifo = h; port = r .port; clock = r .clock; device = r .device }
 
   accepted-ranges : (m : Mode) → k .mode ≡ m → k .fifo .level < fifoSize → beyond m image (k .address .position) (commandOf b) ≡ false
       → ControlRanges (acceptedIn m image k b .control)
-  accepted-ranges Idle e l h = obeyed-ranges image small k r e b (commandOf b) h
+  accepted-ranges Idle e l h = obeyed-ranges image small k r e none b (commandOf b) h
   accepted-ranges Rom e l h = reset-ranges k
   accepted-ranges Waiting e l h =
       let held : fifoValid Waiting (k .fifo) ≡ true = subst (λ (m : Mode). fifoValid m (k .fifo) ≡ true) e (r .fifo) in
@@ -129,7 +131,7 @@ module _ (image : List ℕ) (small : length image ≤ imageLimit) (k : Control) 
 pub accept-keeps-valid : AcceptKeepsValid
 unfolding accepted
 accept-keeps-valid image k b i v w h =
-    control-in-ranges _ (accepted-ranges image (valid-length image i .1) k (control-ranges k v) b (k .mode) refl (room k (commandOf b) v w) h)
+    control-in-ranges _ (accepted-ranges image (valid-length image i .1) k (control-ranges k v) (not-busy k (commandOf b) w .0) b (k .mode) refl (room k (commandOf b) v w) h)
 
 -- ---- the device
 

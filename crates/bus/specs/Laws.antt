@@ -6,7 +6,7 @@ use Prim.Native.Nat.{ℕ}
 use Rattle.rom.specs.Bits.{imageValid}
 use Rattle.control.specs.Device.{SameKind}
 use Rattle.control.specs.Validity.{controlValid}
-use Rattle.control.specs.Commands.{commandOf, waits, beyond}
+use Rattle.control.specs.Commands.{commandOf, waitsNow, beyond}
 use Rattle.bus.specs.Types.{Control}
 use Rattle.bus.specs.Accept.{accepted}
 
@@ -14,7 +14,7 @@ use Rattle.bus.specs.Accept.{accepted}
 abbrev pub AcceptKeepsValid : Type 0
 AcceptKeepsValid =
     (image : List ℕ) (k : Control) (b : ℕ) → imageValid image ≡ true → controlValid k ≡ true
-    → waits (k .mode) (k .fifo .level) (commandOf b) ≡ false → beyond (k .mode) image (k .address .position) (commandOf b) ≡ false
+    → waitsNow k (commandOf b) ≡ false → beyond (k .mode) image (k .address .position) (commandOf b) ≡ false
     → controlValid (accepted image k b .control) ≡ true
 
 -- No byte turns one device into the other.

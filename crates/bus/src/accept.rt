@@ -4,7 +4,7 @@ ghost use mathlib.Core.Bool.{true, false};
 ghost use Prim.Native.Nat.{_<_};
 ghost use Rattle.fifo.specs.Buffer.{fifoSize};
 ghost use Rattle.control.specs.Validity.{controlValid};
-ghost use Rattle.control.specs.Commands.{commandOf, waits};
+ghost use Rattle.control.specs.Commands.{commandOf, waitsNow};
 ghost use Rattle.bus.specs.Accept.{buffered, accepted};
 use crate::commands::Accepted;
 use crate::commands::obey;
@@ -28,7 +28,7 @@ fn buffer(control: Control, byte: u8) -> Control
 pub fn accept(control: Control, image: &[u8], byte: u8, command: Command) -> Accepted
     requires { ⌜ (controlValid control ≡ true)
         × (command ≡ commandOf byte)
-        × (waits (control .mode) (control .fifo .level) command ≡ false) ⌝ }
+        × (waitsNow control command ≡ false) ⌝ }
     ensures { λ r. ⌜ r ≡ accepted (now (image .entry)) control byte ⌝ }
 {
     let mode = control.mode;

@@ -2,7 +2,8 @@
 ghost use mathlib.Core.Path.{_≡_};
 ghost use Prim.Native.Nat.{_≤_, _<_};
 ghost use Rattle.address.specs.Addresses.{positionLimit, nibbles};
-ghost use Rattle.bus.specs.Commands.{soundKept, talking, reset, dataDropped, dataTaken, obeyed};
+ghost use Rattle.bus.specs.Commands.{soundKept, talking, reset, dataDropped, dataTaken, keptBusy, obeyed};
+use base::units::Samples;
 use control::commands::Command;
 use control::state::Control;
 use control::state::Mode;
@@ -62,11 +63,21 @@ fn take_data(control: Control, image: &[u8]) -> Port
     ensures { λ r. ⌜ r ≡ dataTaken (now (image .entry)) control ⌝ }
 {
     let position = control.address.position;
+    let busy = control.port.busy;
     Port {
         pending: true,
         data: field_at(image, position, 8),
         interrupt: control.port.interrupt,
+        busy,
     }
+}
+
+// The control that a branch keeps busy, without pending data.
+fn keep_busy(control: Control) -> Control
+    ensures { λ r. ⌜ r ≡ keptBusy control ⌝ }
+{
+    let port = control.port;
+    control.with_port(port.drop_data().with_busy(Samples::of(Port::BRANCH_TIME)))
 }
 
 // What a command does.
@@ -83,7 +94,9 @@ pub(crate) fn obey(control: Control, image: &[u8], byte: u8, command: Command) -
             let port = take_data(control, image);
             sound_kept(control.with_port(port).with_address(address.pass_byte()))
         }
-        Command::ReadAndBranch => sound_kept(dropped.with_address(address.branch(image))),
+        Command::ReadAndBranch => sound_kept(keep_busy(control).with_address(address.branch(
+            image,
+        ))),
         Command::LoadAddress => sound_kept(dropped.with_address(address.load(byte % 16))),
         Command::Speak => talk(dropped.with_address(address.restart()), Mode::Rom),
         Command::SpeakExternal => sound_kept(dropped.with_mode(Mode::Waiting)),
