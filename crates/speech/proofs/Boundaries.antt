@@ -28,11 +28,12 @@ use Rattle.reports.proofs.RanOut.{nothing-not-out, frame-not-out}
 use Rattle.rom.proofs.Prefixed.{prefixed-cut}
 use Rattle.control.specs.Device.{rateOf}
 use Rattle.control.specs.State.{withClock}
+use Rattle.control.specs.State.{lessBusy}
 use Rattle.control.specs.Validity.{fifoValid, controlValid}
 use Rattle.control.proofs.Ranges.{control-ranges, mode-ranges, valid-fits}
 use Rattle.fifo.proofs.Held.{held-frame, held-cut}
 use Rattle.speech.specs.Types.{Mode, Idle, Rom, Waiting, External, Fifo, Clock, Control, Details, Report, NoReport, RanOut, Action, Silent, Begin, Moved}
-use Rattle.speech.specs.Advance.{within, changed, frameBegun, ranOut, fromRom, fifoOut, fromFifo, formOf, boundaryIn, advanced}
+use Rattle.speech.specs.Advance.{within, changed, frameBegun, ranOut, fromRom, fifoOut, fromFifo, formOf, boundaryIn, advancedFrom}
 use Rattle.speech.specs.Laws.{FifoFrame, FifoEnds, RomEnds}
 
 -- a frame that begins, from what its calls give
@@ -73,17 +74,17 @@ module _ (P : ℕ) (image : List ℕ) (k : Control) where
 
   -- a step of the control
   pub advanced-silent : {e : Details} → k .clock .sounding ≡ false → e ≡ noDetails
-      → record { control = k; action = Silent; report = NoReport; details = e } ≡ advanced P image k
-  unfolding advanced
+      → record { control = k; action = Silent; report = NoReport; details = e } ≡ advancedFrom P image k
+  unfolding advancedFrom
   advanced-silent s e = rw e (sym (cond-false _ _ _ s))
 
-  pub advanced-boundary : {r : Moved} → k .clock .sounding ≡ true → frameBegins (k .clock) ≡ true → r ≡ boundaryIn P (k .mode) image k → r ≡ advanced P image k
-  unfolding advanced
+  pub advanced-boundary : {r : Moved} → k .clock .sounding ≡ true → frameBegins (k .clock) ≡ true → r ≡ boundaryIn P (k .mode) image k → r ≡ advancedFrom P image k
+  unfolding advancedFrom
   advanced-boundary s t r = r ∙ sym (cond-true _ _ _ s ∙ cond-true _ _ _ t)
 
   pub advanced-within : {d : Control} {a : Action} {e : Details} → k .clock .sounding ≡ true → frameBegins (k .clock) ≡ false → d ≡ withClock (counted (k .clock)) k
-      → a ≡ within (k .clock) → e ≡ noDetails → record { control = d; action = a; report = NoReport; details = e } ≡ advanced P image k
-  unfolding advanced
+      → a ≡ within (k .clock) → e ≡ noDetails → record { control = d; action = a; report = NoReport; details = e } ≡ advancedFrom P image k
+  unfolding advancedFrom
   advanced-within s t r a e = rw (r, a, e) (sym (cond-true _ _ _ s ∙ cond-false _ _ _ t))
 
 module _ (P : ℕ) (k : Control) {r : Moved} where
@@ -128,8 +129,8 @@ module _ (P : ℕ) (image : List ℕ) (k : Control) where
   tells-boundary Waiting n e = absurd (nothing-not-out e)
   tells-boundary External n e = absurd (n refl)
 
-  tells-advanced : (k .mode ≡ External → ⊥) → Tells (advanced P image k)
-  unfolding advanced
+  tells-advanced : (k .mode ≡ External → ⊥) → Tells (advancedFrom P image k)
+  unfolding advancedFrom
   tells-advanced n =
       either-way (k .clock .sounding)
       (λ o. either-way (frameBegins (k .clock))
@@ -138,4 +139,4 @@ module _ (P : ℕ) (image : List ℕ) (k : Control) where
       (λ o. subst Tells (sym (cond-false _ _ _ o)) (λ e. absurd (nothing-not-out e)))
 
 pub rom-ends : RomEnds
-rom-ends P image k n = tells-advanced P image k n
+rom-ends P image k n = tells-advanced P image (lessBusy 1 k) n

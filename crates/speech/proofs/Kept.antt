@@ -1,12 +1,12 @@
 -- A valid control steps to a valid control of the same device, and begins no frame that is not one of the table.
 -- Assumes nothing.
 use mathlib.Core.Path.{_≡_, refl, ap, subst}
-use mathlib.Core.Bool.{Bool, true, false, _||_}
+use mathlib.Core.Bool.{Bool, true, false, not, _||_}
 use mathlib.Core.List.{List, [], _∷_, _++_}
 use Prim.Native.Nat.{ℕ, zero, suc, _+_, _-_, _*_, _/_, _%_, _≤_, _<_}
 use native.Mathlib.Omega.{arith}
 use borrow.Author.Tests.{le-leb, ltb-true}
-use lib.Dec.{eqb, ltb}
+use lib.Dec.{eqb, leb, ltb}
 use lib.ListN.{length, drop, replicate, length-append, length-drop, length-replicate}
 use lib.Seq.{drop-drop}
 use Rattle.base.specs.Units.{intervalsPerFrame}
@@ -27,12 +27,13 @@ use Rattle.rates.specs.Form.{Item, itemCode, readItem}
 use Rattle.rates.proofs.Rates.{rate-keeps}
 use Rattle.reports.specs.Reports.{Playable, noDetails}
 use Rattle.control.specs.Device.{rateOf}
-use Rattle.control.specs.State.{withClock}
+use Rattle.control.specs.State.{withClock, branchTime, isBusy, lessBusy}
 use Rattle.control.specs.Validity.{speaks, isIdle, fifoValid, portValid}
 use Rattle.control.specs.Status.{raisedPort}
-use Rattle.control.proofs.Ranges.{ControlRanges, mode-ranges}
+use Rattle.control.proofs.Ranges.{ControlRanges, mode-ranges, port-ranges, port-in-ranges}
+use Rattle.control.proofs.Busy.{less-ranges}
 use Rattle.speech.specs.Types.{Mode, Idle, Rom, Waiting, External, Fifo, Port, Clock, Control, Details, NoReport, Action, Silent, Rest, Begin, Interpolate, Continue, Moved}
-use Rattle.speech.specs.Advance.{within, raises, changed, frameBegun, ranOut, fromRom, fromFifo, formOf, rested, boundaryIn, advanced}
+use Rattle.speech.specs.Advance.{within, raises, changed, frameBegun, ranOut, fromRom, fromFifo, formOf, rested, boundaryIn, advancedFrom, advanced}
 
 -- ---- the FIFO with bits gone
 
@@ -67,11 +68,22 @@ counted-valid : (speaks : Bool) (t : Clock) → t .sounding ≡ true → clockVa
 counted-valid speaks t on =
     rw (le-leb ((t .sample .0 + 1) % 25) 24 (omega arith), le-leb ((t .interval .0 + (t .sample .0 + 1) / 25) % 8) 7 (omega arith), on)
 
+only-where : (b x y : Bool) → (not b || x) ≡ true → (x ≡ true → y ≡ true) → (not b || y) ≡ true
+only-where true x y h f = f h
+only-where false x y h f = refl
+
 -- the port stays valid where an idle mode stays idle
 port-valid : (m m′ : Mode) (p : Port) (i : Bool) → portValid m p ≡ true → (isIdle m ≡ true → isIdle m′ ≡ true)
     → portValid m′ (raisedPort i p) ≡ true
 port-valid m m′ p i h idle =
-    either-way (p .pending) (λ e. rw (e, idle (both-true (isIdle m) true (rw e at h) .0))) (λ e. rw e (rw e at h))
+    let r = port-ranges m p h in
+    port-in-ranges m′ (raisedPort i p) (record {
+      pending = only-where (p .pending) (isIdle m) (isIdle m′) (r .pending) idle;
+      byte = r .byte;
+      busy =
+          let b = both-true (leb (p .busy .0) branchTime) (not (isBusy p) || isIdle m) (r .busy) in
+          rw (b .0, only-where (isBusy p) (isIdle m) (isIdle m′) (b .1) idle);
+    })
 
 -- ---- a step
 
@@ -163,9 +175,14 @@ module _ (P : ℕ) (image : List ℕ) (small : length image ≤ imageLimit) (k :
       device = refl;
     }
 
-  pub advanced-kept : Kept P k (advanced P image k)
-  unfolding advanced
-  advanced-kept =
+  from-kept : Kept P k (advancedFrom P image k)
+  unfolding advancedFrom
+  from-kept =
       by-test (Kept P k) (k .clock .sounding)
       (λ s. by-test (Kept P k) (frameBegins (k .clock)) (λ b. boundary-kept s (k .mode) refl) (λ b. within-kept s))
       (λ s. record { control = r; sounds = refl; playable = tt; device = refl })
+
+pub advanced-kept : (P : ℕ) (image : List ℕ) → length image ≤ imageLimit → (k : Control) → ControlRanges k → Kept P k (advanced P image k)
+advanced-kept P image small k r =
+    let w = from-kept P image small (lessBusy 1 k) (less-ranges 1 k r) in
+    record { control = w .control; sounds = w .sounds; playable = w .playable; device = w .device }

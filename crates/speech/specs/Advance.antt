@@ -14,7 +14,7 @@ use Rattle.rates.specs.Rates.{skippedWith}
 use Rattle.rates.specs.Form.{Form, rateForm, Item, readItem}
 use Rattle.reports.specs.Reports.{frameReport, noDetails, rated, outOfRom, outOfFifo}
 use Rattle.control.specs.Device.{rateOf}
-use Rattle.control.specs.State.{withMode, withAddress, withFifo, withPort, withClock}
+use Rattle.control.specs.State.{withMode, withAddress, withFifo, withPort, withClock, lessBusy}
 use Rattle.control.specs.Validity.{speaks}
 use Rattle.control.specs.Status.{raisedPort}
 use Rattle.speech.specs.Types.{Mode, Idle, Rom, Waiting, External, Fifo, Clock, Control, Details, NoReport, RanOut, Action, Silent, Rest, Begin, Interpolate, Continue, Moved}
@@ -81,10 +81,14 @@ boundaryIn P External image k = fromFifo k (readItem (formOf P k) (heldBytes (k 
 abbrev pub within : Clock → Action
 within t = cond (intervalBegins t) (Interpolate (t .interval)) Continue
 
--- a sample step of the control; not sounding, it changes nothing
-unfoldable pub advanced : ℕ → List ℕ → Control → Moved
-advanced P image k =
+-- a sample step of the control but for the time that a branch takes; not sounding, it changes nothing
+unfoldable pub advancedFrom : ℕ → List ℕ → Control → Moved
+advancedFrom P image k =
     cond (k .clock .sounding)
     (cond (frameBegins (k .clock)) (boundaryIn P (k .mode) image k)
     (record { control = withClock (counted (k .clock)) k; action = within (k .clock); report = NoReport; details = noDetails }))
     (record { control = k; action = Silent; report = NoReport; details = noDetails })
+
+-- a sample step of the control, sounding or not: one sample less busy (02, §12)
+abbrev pub advanced : ℕ → List ℕ → Control → Moved
+advanced P image k = advancedFrom P image (lessBusy 1 k)

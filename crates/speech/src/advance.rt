@@ -10,7 +10,8 @@ ghost use Rattle.clock.specs.Counters.{lastSample};
 ghost use Rattle.fifo.specs.Buffer.{fifoSize, heldBytes};
 ghost use Rattle.rates.specs.Form.{readItem};
 ghost use Rattle.control.specs.Validity.{controlValid};
-ghost use Rattle.speech.specs.Advance.{raises, changed, frameBegun, ranOut, fromRom, fifoOut, fromFifo, formOf, rested, boundaryIn, within, advanced};
+ghost use Rattle.speech.specs.Advance.{raises, changed, frameBegun, ranOut, fromRom, fifoOut, fromFifo, formOf, rested, boundaryIn, within, advancedFrom, advanced};
+use base::units::Samples;
 use clock::Clock;
 use control::state::Control;
 use control::state::Mode;
@@ -219,10 +220,10 @@ fn go_on(clock: Clock) -> Action
     }
 }
 
-// A sample step of the control, which the caller has tested, as it has the image.
-pub fn advance(control: Control, image: &[u8], pitch_bits: usize) -> Moved
+// A sample step but for the time that a branch takes.
+fn advance_from(control: Control, image: &[u8], pitch_bits: usize) -> Moved
     requires { ⌜ (length (now image) ≤ imageLimit) × («pitch_bits» ≤ 8) × (controlValid control ≡ true) ⌝ }
-    ensures { λ r. ⌜ r ≡ advanced «pitch_bits» (now (image .entry)) control ⌝ }
+    ensures { λ r. ⌜ r ≡ advancedFrom «pitch_bits» (now (image .entry)) control ⌝ }
 {
     let clock = control.clock;
     let sounding = clock.sounding;
@@ -248,4 +249,13 @@ pub fn advance(control: Control, image: &[u8], pitch_bits: usize) -> Moved
             details: Details::none(),
         }
     }
+}
+
+// A sample step of the control, which the caller has tested, as it has the image.
+pub fn advance(control: Control, image: &[u8], pitch_bits: usize) -> Moved
+    requires { ⌜ (length (now image) ≤ imageLimit) × («pitch_bits» ≤ 8) × (controlValid control ≡ true) ⌝ }
+    ensures { λ r. ⌜ r ≡ advanced «pitch_bits» (now (image .entry)) control ⌝ }
+{
+    let next = control.less_busy(Samples::of(1));
+    advance_from(next, image, pitch_bits)
 }
