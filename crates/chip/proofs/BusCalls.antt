@@ -9,7 +9,7 @@ use Rattle.base.specs.Refusals.{WAIT, BEYOND, IMAGE, STATE}
 use Rattle.base.proofs.Booleans.{either-way}
 use Rattle.base.proofs.Faults.{First, first-is, answered, refused-with, none-applies, by-fault}
 use Rattle.rom.specs.Bits.{imageValid}
-use Rattle.control.specs.Commands.{commandOf, waits, beyond}
+use Rattle.control.specs.Commands.{commandOf, waitsNow, beyond}
 use Rattle.bus.specs.Accept.{accepted}
 use Rattle.control.specs.Status.{busByte}
 use Rattle.chip.specs.Types.{Accepted, Command, Chip, Control, Acknowledged, ByteRead}
@@ -23,7 +23,7 @@ use Rattle.chip.specs.Laws.{LookKeeps, ReadSame}
 -- the faults of a byte with a command, in the order of the checks
 abbrev commandFaults : List ℕ → Chip → Command → List (Bool × ℕ)
 commandFaults image c k =
-    (not (imageValid image), IMAGE) ∷ (not (valid c), STATE) ∷ (waits (c .control .mode) (c .control .fifo .level) k, WAIT) ∷
+    (not (imageValid image), IMAGE) ∷ (not (valid c), STATE) ∷ (waitsNow (c .control) k, WAIT) ∷
     (beyond (c .control .mode) image (c .control .address .position) k, BEYOND) ∷ []
 
 pub command-fault : (image : List ℕ) (c : Chip) (k : Command) {n : ℕ} → First (commandFaults image c k) n → n ≡ commandFault image c k
@@ -35,7 +35,7 @@ module _ (image : List ℕ) (c : Chip) (b : ℕ) where
   pub record Found : Type 0 where
     pub image-valid : imageValid image ≡ true
     pub chip-valid : valid c ≡ true
-    pub no-wait : waits (c .control .mode) (c .control .fifo .level) (commandOf b) ≡ false
+    pub no-wait : waitsNow (c .control) (commandOf b) ≡ false
     pub not-beyond : beyond (c .control .mode) image (c .control .address .position) (commandOf b) ≡ false
 
   pub found : writeFault image c b ≡ 0 → Found

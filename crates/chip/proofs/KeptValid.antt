@@ -1,16 +1,16 @@
 -- A valid chip stays valid, on the bus and in its steps.
 -- Assumes nothing.
 use mathlib.Core.Path.{_≡_, refl}
-use mathlib.Core.Bool.{true}
+use mathlib.Core.Bool.{true, false}
 use mathlib.Core.List.{List}
 use Prim.Native.Nat.{ℕ}
-use Rattle.base.proofs.Booleans.{either-way, by-test}
+use Rattle.base.proofs.Booleans.{by-test}
 use Rattle.base.proofs.Faults.{by-fault}
 use Rattle.sound.specs.declared.state.Sound.{Sound}
 use Rattle.sound.specs.State.{soundValid, atRest}
 use Rattle.control.specs.Validity.{portValid, controlValid}
-use Rattle.control.specs.Status.{acknowledgedPort}
-use Rattle.control.proofs.Ranges.{ControlRanges, control-ranges, control-in-ranges}
+use Rattle.control.specs.Status.{noData, acknowledgedPort}
+use Rattle.control.proofs.Ranges.{ControlRanges, control-ranges, control-in-ranges, port-ranges, port-in-ranges}
 use Rattle.bus.specs.Accept.{accepted}
 use Rattle.bus.proofs.Kept.{accept-keeps-valid, sounding-kept}
 use Rattle.base.proofs.Steps.{after-keeps}
@@ -63,7 +63,12 @@ write-keeps-valid image c b h =
 -- ---- an acknowledge and a read
 
 acknowledged-valid : (m : Mode) (p : Port) → portValid m p ≡ true → portValid m (acknowledgedPort p) ≡ true
-acknowledged-valid m p h = either-way (p .pending) (λ t. rw t) (λ t. rw t (rw t at h))
+acknowledged-valid m p h =
+    let r = port-ranges m p h in
+    by-test (λ (q : Port). portValid m q ≡ true) (p .pending)
+    (λ t. port-in-ranges m (noData p) (record { pending = refl; byte = refl; busy = r .busy }))
+    (λ t. port-in-ranges m (record { pending = p .pending; «data» = p .«data»; interrupt = false; busy = p .busy })
+    (record { pending = r .pending; byte = r .byte; busy = r .busy }))
 
 pub acknowledge-keeps-valid : AcknowledgeKeepsValid
 unfolding acknowledgeOf

@@ -1,4 +1,4 @@
--- Many steps at once: those of a chip that does not sound leave it as it is, and within an interval in which a sample has been
+-- Many steps at once: those of a chip that does not sound leave it as it is but for a branch's time, and within an interval in which a sample has been
 -- made the control counts, and the sound plays on.
 -- Assumes nothing.
 use mathlib.Core.Path.{_≡_, refl, sym, ap, _∙_, ap₂, subst}
@@ -12,7 +12,7 @@ use native.Mathlib.Omega.{arith}
 use borrow.Author.Tests.{ne-eqb, eqb-false, eqb-true}
 use lib.Dec.{eqb, leb}
 use Rattle.base.specs.Steps.{stateAfter, outputs}
-use Rattle.base.proofs.Steps.{same-state, same-outputs, after-add, outputs-add, after-keeps}
+use Rattle.base.proofs.Steps.{after-add, outputs-add, after-keeps}
 use Rattle.rom.specs.Frames.{pitchBits}
 use Rattle.speech.proofs.Boundaries.{advanced-silent, advanced-within}
 use Rattle.play.specs.Play.{sounded}
@@ -20,29 +20,48 @@ use Rattle.base.proofs.Booleans.{both-true, either-way, by-test}
 use Rattle.sound.specs.Sample.{sampled, valuesOf, soundStep}
 use Rattle.sound.specs.declared.state.Sound.{Sound}
 use Rattle.clock.specs.Counters.{lastSample, lastInterval, countedBy, intervalBegins, frameBegins, leftOfInterval, clockValid}
-use Rattle.control.specs.State.{withClock}
+use Rattle.control.specs.State.{withClock, lessBusy}
+use Rattle.control.proofs.Busy.{less-none, less-twice}
 use Rattle.control.specs.Validity.{speaks}
-use Rattle.chip.specs.Types.{Moved, Chip, Stepped, Clock, Continue}
+use Rattle.chip.specs.Types.{Moved, Chip, Stepped, Control, Clock, Continue}
 use Rattle.chip.specs.Step.{stepTaken, stepFault}
-use Rattle.chip.specs.Run.{sampleStep, playedOn}
+use Rattle.chip.specs.Run.{sampleStep, playedOn, silentOn}
+use Rattle.chip.specs.Laws.{SilentSteps}
 use Rattle.chip.proofs.Stepping.{step-taken, passed}
 use Rattle.chip.proofs.Ranges.{chip-ranges, valid-clock}
 use Rattle.chip.proofs.KeptValid.{goes-on}
 
 -- ---- a chip that does not sound
 
-module _ (image voice : List ℕ) (c : Chip) (h : stepFault image voice c ≡ 0) (off : c .control .clock .sounding ≡ false) where
-  silent-step : sampleStep image voice c ≡ (c, pos 0)
+module _ (image voice : List ℕ) where
+  silent-step : (c : Chip) → stepFault image voice c ≡ 0 → c .control .clock .sounding ≡ false → sampleStep image voice c ≡ (silentOn 1 c, pos 0)
   unfolding stepTaken
-  silent-step =
+  silent-step c h off =
       ap (λ (r : Stepped). (r .chip, r .sample)) (sym (step-taken image voice c refl h refl))
-      ∙ ap (λ (m : Moved). (record { control = m .control; sound = sounded pitchBits voice (m .action) (c .sound) .sound }, sounded pitchBits voice (m .action) (c .sound) .value)) (sym (advanced-silent pitchBits image (c .control) off refl))
+      ∙ ap (λ (m : Moved). (record { control = m .control; sound = sounded pitchBits voice (m .action) (c .sound) .sound }, sounded pitchBits voice (m .action) (c .sound) .value)) (sym (advanced-silent pitchBits image (lessBusy 1 (c .control)) off refl))
 
-  pub silent-state : (n : ℕ) → c ≡ stateAfter (sampleStep image voice) n c
-  silent-state n = sym (same-state (sampleStep image voice) n silent-step)
+  silent-none : (c : Chip) → c ≡ silentOn 0 c
+  silent-none c = ap (λ (k : Control). record { control = k; sound = c .sound }) (sym (less-none (c .control)))
 
-  pub silent-outputs : (n : ℕ) → replicate n (pos 0) ≡ outputs (sampleStep image voice) n c
-  silent-outputs n = sym (same-outputs (sampleStep image voice) n silent-step)
+  silent-more : (n : ℕ) (c : Chip) → silentOn n (silentOn 1 c) ≡ silentOn (suc n) c
+  silent-more n c =
+      let e : 1 + n ≡ suc n = omega arith in
+      ap (λ (k : Control). record { control = k; sound = c .sound }) (less-twice 1 n (c .control))
+      ∙ ap (λ (m : ℕ). silentOn m c) e
+
+  silent-steps-from : (n : ℕ) (c : Chip) → stepFault image voice c ≡ 0 → c .control .clock .sounding ≡ false
+      → (stateAfter (sampleStep image voice) n c ≡ silentOn n c) × (outputs (sampleStep image voice) n c ≡ replicate n (pos 0))
+  silent-steps-from zero c h off = (silent-none c, refl)
+  silent-steps-from (suc n) c h off =
+      let s = silent-step c h off in
+      let f = goes-on image voice c h (sym (step-taken image voice c refl h refl)) in
+      let r = silent-steps-from n (silentOn 1 c) (subst (λ (d : Chip). stepFault image voice d ≡ 0) (ap (λ (p : Chip × ℤ). p .0) s) f) off in (
+        ap (λ (p : Chip × ℤ). stateAfter (sampleStep image voice) n (p .0)) s ∙ r .0 ∙ silent-more n c,
+        ap (λ (p : Chip × ℤ). p .1 ∷ outputs (sampleStep image voice) n (p .0)) s ∙ ap (λ (l : List ℤ). pos 0 ∷ l) (r .1),
+      )
+
+pub silent-steps : SilentSteps
+silent-steps image voice c n h off = silent-steps-from image voice n c h off
 
 -- ---- the counters
 
@@ -82,7 +101,7 @@ module _ (image voice : List ℕ) where
       let t = c .control .clock in
       let inside : intervalBegins t ≡ false = ne-eqb (t .sample .0) 0 n in
       ap (λ (r : Stepped). (r .chip, r .sample)) (sym (step-taken image voice c refl h refl))
-      ∙ ap (λ (m : Moved). (record { control = m .control; sound = sounded pitchBits voice (m .action) (c .sound) .sound }, sounded pitchBits voice (m .action) (c .sound) .value)) (sym (advanced-within pitchBits image (c .control) {a = Continue} on (rw inside) refl (rw inside) refl))
+      ∙ ap (λ (m : Moved). (record { control = m .control; sound = sounded pitchBits voice (m .action) (c .sound) .sound }, sounded pitchBits voice (m .action) (c .sound) .value)) (sym (advanced-within pitchBits image (lessBusy 1 (c .control)) {a = Continue} on (rw inside) refl (rw inside) refl))
 
   -- a step without a fault leads to another
   abbrev Faultless : Chip → Type 0
@@ -90,6 +109,17 @@ module _ (image voice : List ℕ) where
 
   faultless-after : (n : ℕ) (c : Chip) → Faultless c → Faultless (stateAfter (sampleStep image voice) n c)
   faultless-after n c h = after-keeps (sampleStep image voice) Faultless (λ c h. goes-on image voice c h (sym (step-taken image voice c refl h refl))) n h
+
+  -- n samples of a chip that does not sound
+  pub record Silenced (n : ℕ) (c : Chip) : Type 0 where
+    pub state : silentOn n c ≡ stateAfter (sampleStep image voice) n c
+    pub samples : replicate n (pos 0) ≡ outputs (sampleStep image voice) n c
+    pub faultless : stepFault image voice (silentOn n c) ≡ 0
+
+  pub silenced : (n : ℕ) (c : Chip) → stepFault image voice c ≡ 0 → c .control .clock .sounding ≡ false → Silenced n c
+  silenced n c h off =
+      let r = silent-steps image voice c n h off in
+      record { state = sym (r .0); samples = sym (r .1); faultless = subst Faultless (r .0) (faultless-after n c h) }
 
   module _ (c : Chip) (h : stepFault image voice c ≡ 0) (on : c .control .clock .sounding ≡ true)
       (made : 1 ≤ c .control .clock .sample .0) (s : c .control .clock .sample .0 ≤ 24) (i : c .control .clock .interval .0 ≤ 7) where
@@ -107,7 +137,7 @@ module _ (image voice : List ℕ) where
               after-add (sampleStep image voice) n 1 c
               ∙ ap (λ (d : Chip). sampleStep image voice d .0) (w .state)
               ∙ ap (λ (r : Chip × ℤ). r .0) one
-              ∙ ap₂ (λ (t : Clock) (s : Sound). record { control = withClock t (c .control); sound = s }) (counted-more n (c .control .clock)) (sym (after-add (soundStep pitchBits voice) n 1 (c .sound)));
+              ∙ ap₂ (λ (k : Control) (s : Sound). record { control = k; sound = s }) (ap₂ withClock (counted-more n (c .control .clock)) (less-twice n 1 (c .control))) (sym (after-add (soundStep pitchBits voice) n 1 (c .sound)));
           samples =
               outputs-add (sampleStep image voice) n 1 c
               ∙ ap₂ _++_ (w .samples) (ap (λ (d : Chip). sampleStep image voice d .1 ∷ []) (w .state) ∙ ap (λ (r : Chip × ℤ). r .1 ∷ []) one)
@@ -117,7 +147,7 @@ module _ (image voice : List ℕ) where
     within-steps : (n : ℕ) → c .control .clock .sample .0 + n ≤ 25 → Within n
     within-steps zero l =
         record {
-          state = sym (ap (λ (t : Clock). record { control = withClock t (c .control); sound = c .sound }) (counted-none (c .control .clock) s i));
+          state = sym (ap (λ (k : Control). record { control = k; sound = c .sound }) (ap₂ withClock (counted-none (c .control .clock) s i) (less-none (c .control))));
           samples = refl;
         }
     within-steps (suc n) l = subst Within (add-one n) (within-more n (omega arith) (within-steps n (omega arith)))

@@ -1,11 +1,14 @@
 -- What is proved of every operation: the ranges and the kind of the device are kept; a look changes nothing, and a read is what it was
 -- before it was two; and a step's control and report depend on the image and the control alone.
 use mathlib.Core.Path.{_≡_}
-use mathlib.Core.Bool.{true, cond}
+use mathlib.Core.Bool.{true, false, cond}
 use mathlib.Core.List.{List}
 use Prim.Native.Nat.{ℕ}
 use lib.Dec.{eqb}
+use lib.IntN.{pos}
+use lib.ListN.{replicate}
 use Rattle.base.specs.Refusals.{TAKEN}
+use Rattle.base.specs.Steps.{stateAfter, outputs}
 use Rattle.control.specs.Device.{SameKind}
 use Rattle.control.specs.Status.{busByte}
 use Rattle.chip.specs.Types.{BitOrder, Chip, Stepped}
@@ -13,8 +16,8 @@ use Rattle.chip.specs.State.{powerUpWith, powerUp5220CWith}
 use Rattle.chip.specs.Validity.{valid}
 use Rattle.chip.specs.Write.{writeOf}
 use Rattle.chip.specs.Read.{lookOf, acknowledgeOf, readOf}
-use Rattle.chip.specs.Step.{stepTaken, stepOf}
-use Rattle.chip.specs.Run.{runOf}
+use Rattle.chip.specs.Step.{stepTaken, stepFault, stepOf}
+use Rattle.chip.specs.Run.{sampleStep, silentOn, runOf}
 
 -- The power-up states are valid, in either order of the FIFO's bits.
 abbrev pub PowerUpValid : Type 0
@@ -74,3 +77,9 @@ pub record SameStep (s t : Stepped) : Type 0 where
 abbrev pub ControlAlone : Type 0
 ControlAlone =
     (image voice voice′ : List ℕ) (c d : Chip) → c .control ≡ d .control → SameStep (stepTaken image voice c) (stepTaken image voice′ d)
+
+-- n steps of a chip that does not sound lower its count of busy samples by n and change nothing else; their samples are 0 (02, §12).
+abbrev pub SilentSteps : Type 0
+SilentSteps =
+    (image voice : List ℕ) (c : Chip) (n : ℕ) → stepFault image voice c ≡ 0 → c .control .clock .sounding ≡ false
+    → (stateAfter (sampleStep image voice) n c ≡ silentOn n c) × (outputs (sampleStep image voice) n c ≡ replicate n (pos 0))

@@ -7,7 +7,7 @@ use Rattle.base.specs.Refusals.{TAKEN, unlessFault}
 use Rattle.base.specs.Steps.{stateAfter, outputs}
 use Rattle.rom.specs.Frames.{pitchBits}
 use Rattle.sound.specs.Sample.{soundAfter}
-use Rattle.control.specs.State.{withClock}
+use Rattle.control.specs.State.{withClock, lessBusy}
 use Rattle.clock.specs.Counters.{countedBy}
 use Rattle.chip.specs.Types.{Chip, Ran}
 use Rattle.chip.specs.Step.{stepFault, stepOf}
@@ -19,7 +19,11 @@ sampleStep image voice c = (stepOf image voice c .chip, stepOf image voice c .sa
 -- the chip n samples on, within an interval in which a sample has been made: the clock counts, the sound plays
 abbrev pub playedOn : List ℕ → ℕ → Chip → Chip
 playedOn voice n c =
-    record { control = withClock (countedBy n (c .control .clock)) (c .control); sound = soundAfter pitchBits voice n (c .sound) }
+    record { control = withClock (countedBy n (c .control .clock)) (lessBusy n (c .control)); sound = soundAfter pitchBits voice n (c .sound) }
+
+-- the chip n samples on, where it does not sound: a branch's time passes (02, §12)
+abbrev pub silentOn : ℕ → Chip → Chip
+silentOn n c = record { control = lessBusy n (c .control); sound = c .sound }
 
 -- refused, the state is the given one
 abbrev pub notRun : Chip → ℕ → Ran

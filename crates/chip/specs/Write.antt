@@ -6,7 +6,7 @@ use Rattle.base.specs.Refusals.{TAKEN, WAIT, BEYOND, IMAGE, STATE, firstFault, 
 use Rattle.rom.specs.Bits.{imageValid}
 use Rattle.sound.specs.State.{restSound}
 use Rattle.chip.specs.Types.{Command, Accepted, Chip, Written}
-use Rattle.control.specs.Commands.{commandOf, waits, beyond}
+use Rattle.control.specs.Commands.{commandOf, waitsNow, beyond}
 use Rattle.bus.specs.Accept.{accepted}
 use Rattle.chip.specs.Validity.{valid}
 
@@ -15,7 +15,7 @@ unfoldable pub commandFault : List ℕ → Chip → Command → ℕ
 commandFault image c k =
     let m = c .control .mode in
     firstFault
-    ((not (imageValid image), IMAGE) ∷ (not (valid c), STATE) ∷ (waits m (c .control .fifo .level) k, WAIT) ∷
+    ((not (imageValid image), IMAGE) ∷ (not (valid c), STATE) ∷ (waitsNow (c .control) k, WAIT) ∷
     (beyond m image (c .control .address .position) k, BEYOND) ∷ [])
 
 -- the fault of a written byte

@@ -11,7 +11,7 @@ ghost use Rattle.clock.specs.Counters.{lastSample, leftOfInterval};
 ghost use Rattle.sound.specs.Sample.{valuesOf};
 ghost use Rattle.chip.specs.Validity.{valid};
 ghost use Rattle.chip.specs.Step.{stepFault};
-ghost use Rattle.chip.specs.Run.{sampleStep, playedOn, runOf, bufferOf};
+ghost use Rattle.chip.specs.Run.{sampleStep, playedOn, silentOn, runOf, bufferOf};
 use crate::state::Chip;
 use base::refusal::TAKEN;
 use base::units::Samples;
@@ -59,13 +59,28 @@ impl Chip {
     {
         let old = self.control;
         let clock = old.clock;
-        let control = old.with_clock(clock.count_by(Samples::of(out.len() as u64)));
+        let passed = Samples::of(out.len() as u64);
+        let control = old.less_busy(passed).with_clock(clock.count_by(passed));
         let before = self.sound;
         let sound = before.play(voice, out, PITCH_BITS);
         Chip { control, sound }
     }
 
-    // A step for each element, once the checks have passed. What is left of an interval is played at once.
+    // The samples of a chip that does not sound, one for each element: in them a branch's time passes, and no more.
+    fn keep_silent(self, out: &mut [i16]) -> Chip
+        ensures { λ r. ⌜ r ≡ silentOn (length (now (out .entry))) self ⌝ }
+        ensures { λ r. ⌜ now (out .exit) ≡ replicate (length (now (out .entry))) (pos 0) ⌝ }
+    {
+        let passed = Samples::of(out.len() as u64);
+        silence(out);
+        let old = self.control;
+        let control = old.less_busy(passed);
+        let sound = self.sound;
+        Chip { control, sound }
+    }
+
+    // A step for each element, once the checks have passed. What is left of an interval is played at once, and all that is left where the
+    // chip does not sound.
     fn fill(self, image: &[u8], voice: &[u8], out: &mut [i16]) -> Chip
         requires { ⌜ stepFault (now image) (now voice) self ≡ 0 ⌝ }
         ensures { λ r. ⌜ r ≡ stateAfter (sampleStep (now (image .entry)) (now (voice .entry))) (length (now (out .entry))) self ⌝ }
@@ -75,8 +90,14 @@ impl Chip {
         let mut i = 0;
         while i < out.len() {
             let clock = chip.control.clock;
+            let sounding = clock.sounding;
             let left = samples_left(clock);
-            if left == 0 {
+            if !sounding {
+                let end = out.len();
+                let next = chip.keep_silent(&mut out[i..end]);
+                chip = next;
+                i = end;
+            } else if left == 0 {
                 let stepped = chip.take_step(image, voice);
                 let next = stepped.chip;
                 let sample = stepped.sample;
@@ -93,21 +114,6 @@ impl Chip {
         chip
     }
 
-    // The same for any chip: one that does not sound stays as it is, and its samples are 0.
-    fn sound_or_silence(self, image: &[u8], voice: &[u8], out: &mut [i16]) -> Chip
-        requires { ⌜ stepFault (now image) (now voice) self ≡ 0 ⌝ }
-        ensures { λ r. ⌜ r ≡ stateAfter (sampleStep (now (image .entry)) (now (voice .entry))) (length (now (out .entry))) self ⌝ }
-        ensures { λ r. ⌜ now (out .exit) ≡ outputs (sampleStep (now (image .entry)) (now (voice .entry))) (length (now (out .entry))) self ⌝ }
-    {
-        let clock = self.control.clock;
-        if clock.sounding {
-            self.fill(image, voice, out)
-        } else {
-            silence(out);
-            self
-        }
-    }
-
     // Operation: a run.
     pub fn run(self, image: &[u8], voice: &[u8], out: &mut [i16]) -> Ran
         ensures { λ r. ⌜ r ≡ runOf (now (image .entry)) (now (voice .entry)) self (length (now (out .entry))) ⌝ }
@@ -120,7 +126,7 @@ impl Chip {
                 refusal: fault,
             };
         }
-        let chip = self.sound_or_silence(image, voice, out);
+        let chip = self.fill(image, voice, out);
         Ran {
             chip,
             refusal: TAKEN,

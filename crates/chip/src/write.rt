@@ -31,10 +31,10 @@ impl Chip {
             return STATE;
         }
         let control = self.control;
-        let mode = control.mode;
-        if mode.waits(control.fifo.level, command) {
+        if control.waits(command) {
             return WAIT;
         }
+        let mode = control.mode;
         if mode.beyond(image, control.address.position, command) {
             return BEYOND;
         }

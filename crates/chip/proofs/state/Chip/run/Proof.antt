@@ -14,5 +14,5 @@ run-spec =
     (λ c κs. search needs) (λ c. search needs)
     (λ c.
     let a = c .before .before .before .before .before .before .before .args in
-    let f = c .before .sound-or-silence .ensures in
+    let f = c .before .fill .ensures in
     run-taken (now (a .image)) (now (a .voice)) (a .self) (c .before .before .before .before .step-fault .ensures) (now (a .out)) (c .before .before .before .if1 .left) (f .0) (f .1)))
