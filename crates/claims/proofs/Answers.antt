@@ -30,14 +30,14 @@ use Rattle.claims.specs.Device.{faultOf, modeOf, talkStatus}
 
 -- a command that is not beyond the image is taken and obeyed
 pub obeys : (image : List ℕ) (c : Chip) (b : ℕ) (k : Command) → imageValid image ≡ true → valid c ≡ true → c .control .mode ≡ Idle
-    → commandOf b ≡ k → beyondAt image (c .control .address .position) k ≡ false
+    → c .control .port .busy .0 ≡ 0 → commandOf b ≡ k → beyondAt image (c .control .address .position) k ≡ false
     → writeOf image c b ≡ record { chip = afterByte c (obeyed image (c .control) b k); refusal = 0 }
 unfolding commandFault
-obeys image c b k i v m e n =
+obeys image c b k i v m q e n =
     sym (write-taken image c b (sym fault) refl (in-mode image (c .control) b m (sym (ap (obeyed image (c .control) b) e))) refl)
   where
     fault : writeFault image c b ≡ 0
-    fault = rw (i, v, m, e, n)
+    fault = rw (i, v, m, q, e, n)
 
 module _ (image voice : List ℕ) (c : Chip) (i : imageValid image ≡ true) (v : valid c ≡ true) where
   -- the fault of a step is that of its voice file
@@ -55,12 +55,12 @@ module _ (image voice : List ℕ) (c : Chip) (i : imageValid image ≡ true) (v 
   unfolding runOf
   run-by-voice n e = rw (step-fault, e)
 
-pub write-fault : (image : List ℕ) (c : Chip) (b : ℕ) → imageValid image ≡ true → valid c ≡ true
+pub write-fault : (image : List ℕ) (c : Chip) (b : ℕ) → imageValid image ≡ true → valid c ≡ true → c .control .port .busy .0 ≡ 0
     → writeFault image c b
     ≡ firstFault ((waits (c .control .mode) (c .control .fifo .level) (commandOf b), WAIT) ∷
     (beyond (c .control .mode) image (c .control .address .position) (commandOf b), BEYOND) ∷ [])
 unfolding commandFault
-write-fault image c b i v = rw (i, v)
+write-fault image c b i v q = rw (i, v, q)
 
 module _ (c : Chip) (v : valid c ≡ true) where
   pub read-taken : readOf c .refusal ≡ 0
@@ -77,6 +77,9 @@ module _ (c : Chip) (v : valid c ≡ true) where
 
 pub still-none : (p : Port) → p .pending ≡ false → acknowledgedPort p .pending ≡ false
 still-none p e = rw e
+
+pub still-busy : (p : Port) → acknowledgedPort p .busy ≡ p .busy
+still-busy p = by-test (λ (q : Port). q .busy ≡ p .busy) (p .pending) (λ e. refl) (λ e. refl)
 
 -- the status: BL and BE are set, and TS with the mode
 pub status-is : (t : Bool) (k : Control) → k .mode ≡ modeOf t → k .fifo .level ≡ 0 → statusOf k ≡ talkStatus t

@@ -9,6 +9,7 @@ use native.Mathlib.Omega.{arith}
 use borrow.Author.Tests.{eq-eqb, ne-eqb, le-leb}
 use lib.Dec.{eqb}
 use lib.ListN.{length}
+use Rattle.base.specs.declared.units.Samples.{Samples}
 use Rattle.base.specs.Refusals.{WAIT, BEYOND, firstFault}
 use Rattle.base.specs.Steps.{stateAfter}
 use Rattle.base.proofs.Booleans.{by-test}
@@ -40,7 +41,7 @@ use Rattle.chip.proofs.KeptValid.{write-keeps-valid, read-keeps-valid, step-kee
 use Rattle.claims.specs.Device.{ratedForm, stepGives, runGives, writeGives, chipOn, faultOf, refusedAs, chipTable}
 use Rattle.claims.specs.Demand3.{SpeakByte}
 use Rattle.claims.specs.Opening.{Ready, Core}
-use Rattle.claims.proofs.Answers.{obeys, step-by-voice, run-by-voice, write-fault, read-taken, read-status, read-chip, still-none, status-is}
+use Rattle.claims.proofs.Answers.{obeys, step-by-voice, run-by-voice, write-fault, read-taken, read-status, read-chip, still-none, still-busy, status-is}
 use Rattle.claims.proofs.Moves.{speechOf, Calm, moves}
 
 -- a valid chip that speaks from ROM, at the rate r, or is idle
@@ -90,11 +91,17 @@ module _ (image : List ℕ) (i : imageValid image ≡ true) (r : FrameRate) wher
   -- ---- a read and a written byte
 
   read-calm : (c : Chip) → Still r c → Calm r (acknowledged (c .control))
-  read-calm c s = record { mode = s .calm .mode; level = s .calm .level; pending = still-none (c .control .port) (s .calm .pending); rate = s .calm .rate }
+  read-calm c s = record {
+    mode = s .calm .mode;
+    level = s .calm .level;
+    pending = still-none (c .control .port) (s .calm .pending);
+    busy = ap (λ (n : Samples). n .0) (still-busy (c .control .port)) ∙ s .calm .busy;
+    rate = s .calm .rate;
+  }
 
   number : (c : Chip) (b : ℕ) → Still r c → writeFault image c b ≡ refusedAs image (chipSpeech c .talking) (chipSpeech c .position) b
   number c b s =
-      write-fault image c b i (s .is-valid)
+      write-fault image c b i (s .is-valid) (s .calm .busy)
       ∙ ap₂ (λ (m : Mode) (l : ℕ). firstFault ((waits m l (commandOf b), WAIT) ∷ (beyond m image (c .control .address .position) (commandOf b), BEYOND) ∷ []))
       (s .calm .mode) (s .calm .level)
 
@@ -126,7 +133,7 @@ module _ (image : List ℕ) (a : ℕ) (i : imageValid image ≡ true) (inside : 
     (s : SpeakByte) where
   spoke : writeOf image c (s .byte) ≡ record { chip = afterByte c (obeyed image (c .control) (s .byte) Speak); refusal = 0 }
   spoke =
-      obeys image c (s .byte) Speak i (ready .is-valid) (ready .is-idle) (s .speak)
+      obeys image c (s .byte) Speak i (ready .is-valid) (ready .is-idle) (ready .not-busy) (s .speak)
       (rw (le-leb (c .control .address .position + 1) (8 * length image) (omega (arith, ready .at-byte))))
 
   empty : c .control .fifo .level ≡ 0
@@ -139,7 +146,7 @@ module _ (image : List ℕ) (a : ℕ) (i : imageValid image ≡ true) (inside : 
   pub speaking-still : Still r speakingChip
   speaking-still = record {
     is-valid = write-keeps-valid image c (s .byte) (ready .is-valid);
-    calm = subst (λ (w : Written). Calm r (w .chip .control)) (sym spoke) (record { mode = refl; level = empty; pending = refl; rate = ready .at-rate });
+    calm = subst (λ (w : Written). Calm r (w .chip .control)) (sym spoke) (record { mode = refl; level = empty; pending = refl; busy = ready .not-busy; rate = ready .at-rate });
   }
 
   pub speaking-begins : chipSpeech speakingChip ≡ talkingFrom (8 * a) (c .control .clock)

@@ -15,11 +15,13 @@ use Rattle.schedule.specs.Types.{tellsRated, Speech, Spoken}
 use Rattle.schedule.specs.Speech.{byAnswer, spoken}
 use Rattle.schedule.proofs.Keeping.{spoken-silent, spoken-within, spoken-rests, spoken-reads}
 use Rattle.control.specs.Device.{rateOf}
+use Rattle.control.specs.State.{lessBusy}
 use Rattle.control.specs.Validity.{speaks}
 use Rattle.control.specs.declared.state.Mode.{Mode}
 use Rattle.control.specs.declared.state.Mode.the-variants.{Idle, Rom, Waiting, External}
 use Rattle.control.specs.declared.state.Control.{Control}
-use Rattle.speech.specs.Advance.{fromRom, formOf, rested, boundaryIn, advanced}
+use Rattle.control.specs.declared.state.Port.{Port}
+use Rattle.speech.specs.Advance.{fromRom, formOf, rested, boundaryIn, advancedFrom, advanced}
 use Rattle.speech.specs.declared.advance.Moved.{Moved}
 use Rattle.claims.specs.Device.{ratedForm, modeOf}
 
@@ -27,11 +29,12 @@ use Rattle.claims.specs.Device.{ratedForm, modeOf}
 abbrev pub speechOf : Control → Speech
 speechOf k = record { talking = speaks (k .mode); position = k .address .position; clock = k .clock }
 
--- neither external mode, no byte held, no data pending, and frames at the rate r
+-- neither external mode, no byte held, no data pending, not busy, and frames at the rate r
 pub record Calm (r : FrameRate) (k : Control) : Type 0 where
   pub mode : k .mode ≡ modeOf (speaks (k .mode))
   pub level : k .fifo .level ≡ 0
   pub pending : k .port .pending ≡ false
+  pub busy : k .port .busy .0 ≡ 0
   pub rate : rateOf (k .device) ≡ r
 
 pub not-external : {r : FrameRate} (k : Control) → Calm r k → k .mode ≡ External → ⊥
@@ -52,11 +55,11 @@ module _ (image : List ℕ) (r : FrameRate) (k : Control) (h : Calm r k) where
   form = formOf pitchBits k
 
   abbrev Moves : Type 0
-  Moves = Same r (advanced pitchBits image k) (spoken form image (speechOf k))
+  Moves = Same r (advancedFrom pitchBits image k) (spoken form image (speechOf k))
 
   -- only the clock moves
-  counts : {d : Moved} {e : Spoken} → advanced pitchBits image k ≡ d → spoken form image (speechOf k) ≡ e
-      → k .mode ≡ d .control .mode → k .fifo .level ≡ d .control .fifo .level → k .port .pending ≡ d .control .port .pending
+  counts : {d : Moved} {e : Spoken} → advancedFrom pitchBits image k ≡ d → spoken form image (speechOf k) ≡ e
+      → k .mode ≡ d .control .mode → k .fifo .level ≡ d .control .fifo .level → k .port ≡ d .control .port
       → k .device ≡ d .control .device → speechOf (d .control) ≡ e .speech → tellsRated (d .details .rate) (d .report) ≡ e .told → Moves
   counts a b m l p v s t =
       subst₂ (Same r) (sym a) (sym b)
@@ -64,7 +67,8 @@ module _ (image : List ℕ) (r : FrameRate) (k : Control) (h : Calm r k) where
         calm = record {
           mode = sym m ∙ h .mode ∙ ap (λ (x : Mode). modeOf (speaks x)) m;
           level = sym l ∙ h .level;
-          pending = sym p ∙ h .pending;
+          pending = ap (λ (q : Port). q .pending) (sym p) ∙ h .pending;
+          busy = ap (λ (q : Port). q .busy .0) (sym p) ∙ h .busy;
           rate = ap rateOf (sym v) ∙ h .rate;
         };
         speech = s;
@@ -74,18 +78,18 @@ module _ (image : List ℕ) (r : FrameRate) (k : Control) (h : Calm r k) where
   by-answer : k .mode ≡ Rom → (x : ItemAnswer Item) → Same r (fromRom image k x) (byAnswer form image (speechOf k) x)
   by-answer m (whole (q, f) next) =
       either-way (isStop f)
-      (λ e. record { calm = record { mode = rw e; level = rw e; pending = h .pending; rate = h .rate }; speech = rw e; told = refl })
+      (λ e. record { calm = record { mode = rw e; level = rw e; pending = h .pending; busy = h .busy; rate = h .rate }; speech = rw e; told = refl })
       (λ e. record {
-        calm = record { mode = rw (e, m); level = rw e (h .level); pending = h .pending; rate = h .rate };
+        calm = record { mode = rw (e, m); level = rw e (h .level); pending = h .pending; busy = h .busy; rate = h .rate };
         speech = rw (e, m);
         told = refl;
       })
-  by-answer m (cut x) = record { calm = record { mode = refl; level = h .level; pending = h .pending; rate = h .rate }; speech = refl; told = refl }
+  by-answer m (cut x) = record { calm = record { mode = refl; level = h .level; pending = h .pending; busy = h .busy; rate = h .rate }; speech = refl; told = refl }
 
   -- at a boundary, by the mode
   module _ (o : k .clock .sounding ≡ true) (b : frameBegins (k .clock) ≡ true) where
-    at-boundary : {m : Mode} → k .mode ≡ m → advanced pitchBits image k ≡ boundaryIn pitchBits m image k
-    unfolding advanced
+    at-boundary : {m : Mode} → k .mode ≡ m → advancedFrom pitchBits image k ≡ boundaryIn pitchBits m image k
+    unfolding advancedFrom
     at-boundary e = cond-true _ _ _ o ∙ cond-true _ _ _ b ∙ ap (λ (x : Mode). boundaryIn pitchBits x image k) e
 
     resting : {m : Mode} → k .mode ≡ m → speaks m ≡ false → boundaryIn pitchBits m image k ≡ rested k → Moves
@@ -101,12 +105,16 @@ module _ (image : List ℕ) (r : FrameRate) (k : Control) (h : Calm r k) where
     boundary External e = absurd (not-external k h e)
 
   by-device : Moves
-  unfolding advanced
+  unfolding advancedFrom
   by-device =
       either-way (k .clock .sounding)
       (λ o. either-way (frameBegins (k .clock)) (λ f. boundary o f (k .mode) refl)
       (λ f. counts (cond-true _ _ _ o ∙ cond-false _ _ _ f) (spoken-within form image (speechOf k) o f) refl refl refl refl refl refl))
       (λ o. counts (cond-false _ _ _ o) (spoken-silent form image (speechOf k) o) refl refl refl refl refl refl)
 
-  pub moves : Same r (advanced pitchBits image k) (spoken (ratedForm r) image (speechOf k))
-  moves = subst (λ (x : FrameRate). Same r (advanced pitchBits image k) (spoken (ratedForm x) image (speechOf k))) (h .rate) by-device
+  by-rate : Same r (advancedFrom pitchBits image k) (spoken (ratedForm r) image (speechOf k))
+  by-rate = subst (λ (x : FrameRate). Same r (advancedFrom pitchBits image k) (spoken (ratedForm x) image (speechOf k))) (h .rate) by-device
+
+pub moves : (image : List ℕ) (r : FrameRate) (k : Control) → Calm r k → Same r (advanced pitchBits image k) (spoken (ratedForm r) image (speechOf k))
+moves image r k h =
+    by-rate image r (lessBusy 1 k) (record { mode = h .mode; level = h .level; pending = h .pending; busy = omega (arith, h .busy); rate = h .rate })

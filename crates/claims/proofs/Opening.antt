@@ -57,7 +57,7 @@ fifth-above x v q h g d = let e : 8 * x / 8 % addressLimit ≡ x = omega arith i
 module _ (image : List ℕ) (i : imageValid image ≡ true) (q : BitOrder) (d : Device) (v : deviceValid d ≡ true) (a : ℕ) where
   loads-at : (p n b : ℕ) → p ≤ positionLimit → n < nibbles → commandOf b ≡ LoadAddress
       → writeOf image (placed q d p n) b ≡ record { chip = placed q d (8 * withNibble (p / 8 % addressLimit) n (b % 16)) ((n + 1) % nibbles); refusal = 0 }
-  loads-at p n b h g e = obeys image (placed q d p n) b LoadAddress i (placed-valid q d p n v h g) refl e refl
+  loads-at p n b h g e = obeys image (placed q d p n) b LoadAddress i (placed-valid q d p n v h g) refl refl e refl
 
   -- each of the first four loads
   loads : (n b : ℕ) → n ≤ 3 → 16 * 16 ^ n ≤ 65536 → 0 < 16 ^ n → commandOf b ≡ LoadAddress → b % 16 ≡ a / 16 ^ n % 16
@@ -82,7 +82,7 @@ module _ (image : List ℕ) (i : imageValid image ≡ true) (q : BitOrder) (d : 
   -- a Load Frame Rate byte, anywhere
   rate-at : (p n b : ℕ) → p ≤ positionLimit → n < nibbles → commandOf b ≡ LoadFrameRate
       → writeOf image (placed q d p n) b ≡ record { chip = placed q (loadedRate d b) p n; refusal = 0 }
-  rate-at p n b h g e = obeys image (placed q d p n) b LoadFrameRate i (placed-valid q d p n v h g) refl e refl
+  rate-at p n b h g e = obeys image (placed q d p n) b LoadFrameRate i (placed-valid q d p n v h g) refl refl e refl
 
 -- ---- bytes that are taken one after another
 
@@ -156,6 +156,7 @@ opening image a i inside d v q ls ms rs ts l = (taken-numbers all, subst (Ready 
       is-valid = placed-valid q (deviceAfter set ms) (8 * a) 0 (after-valid set ms set-valid) (omega (arith, small)) (omega arith);
       is-idle = refl;
       no-data = refl;
+      not-busy = refl;
       at-byte = refl;
       at-rate = ap rateOf (sym (after-both d ls ms));
     }

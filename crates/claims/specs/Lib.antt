@@ -1,6 +1,7 @@
 pub mod Writes
 pub mod Cases
 pub mod CasesRated
+pub mod CasesBusy
 pub mod Device
 pub mod Answers
 pub mod Demand3

@@ -40,12 +40,13 @@ deviceAfter d (b ∷ bs) = deviceAfter (loadedRate d b) bs
 abbrev pub openingBytes : List ℕ → {a : ℕ} → Loads a → List ℕ → List ℕ
 openingBytes ls l ms = ls ++ (loadBytes l ++ ms)
 
--- a chip from which Speak begins at byte a, with frames at the rate r: valid and idle, without pending data, its position the byte's
--- first bit
+-- a chip from which Speak begins at byte a, with frames at the rate r: valid and idle, not busy, without pending data, its position the
+-- byte's first bit
 pub record Ready (r : FrameRate) (a : ℕ) (c : Chip) : Type 0 where
   pub is-valid : valid c ≡ true
   pub is-idle : c .control .mode ≡ Idle
   pub no-data : c .control .port .pending ≡ false
+  pub not-busy : c .control .port .busy .0 ≡ 0
   pub at-byte : c .control .address .position ≡ 8 * a
   pub at-rate : rateOf (c .control .device) ≡ r
 
