@@ -21,7 +21,7 @@ runLimit = 8192
 
 -- how many numbers a chip's state has
 abbrev pub stateLength : ℕ
-stateLength = 68
+stateLength = 69
 
 -- the u32 from byte i on, little-endian
 unfoldable pub le32 : List ℕ → ℕ → ℕ

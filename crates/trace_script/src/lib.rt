@@ -12,7 +12,7 @@ pub const LIMIT: usize = 1048576;
 pub const RUN_LIMIT: usize = 8192;
 
 // How many numbers a chip's state has, in a record and in a line. Later ones are added at the end.
-pub const STATE_LENGTH: usize = 68;
+pub const STATE_LENGTH: usize = 69;
 
 // The u32 from byte `at` on, little-endian. That it is below 2^32 follows from the bytes, of which the definition says no range.
 pub fn le32(script: &[u8], at: usize) -> usize

@@ -111,5 +111,5 @@ module _ (c : Chip) where
 
           pub state-length : length (stateNumbers c) ≡ stateLength
           state-length =
-              let n : length (stateNumbers c) - 63 ≡ 5 = sym (length-drop 63 (stateNumbers c)) ∙ ap length later-at in
+              let n : length (stateNumbers c) - 63 ≡ 6 = sym (length-drop 63 (stateNumbers c)) ∙ ap length later-at in
               omega arith

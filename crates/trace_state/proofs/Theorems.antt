@@ -103,11 +103,14 @@ module _ (c : Chip) (f : InFormat c) where
       let p = c .control .address in
       rw (natural-back 4294967295 (p .position) (omega (arith, f .position)) (omega arith), natural-back 255 (p .«next_nibble») (f .«next_nibble») (omega arith))
 
+  busy-is : natural 255 (nth s 68) ≡ c .control .port .busy .0
+  busy-is = rw (number s _ 63 5 68 refl later) (natural-back 255 (c .control .port .busy .0) (f .busy) (omega arith))
+
   port-back : portOf s ≡ c .control .port
   unfolding stateNumbers
   port-back =
       let p = c .control .port in
-      rw (flag-back (p .pending), natural-back 255 (p .«data») (f .«data») (omega arith), flag-back (p .interrupt))
+      rw (flag-back (p .pending), natural-back 255 (p .«data») (f .«data») (omega arith), flag-back (p .interrupt), busy-is)
 
   device-back : deviceOf s ≡ c .control .device
   device-back =

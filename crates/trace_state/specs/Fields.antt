@@ -26,11 +26,11 @@ controlNumbers c =
 abbrev pub clockNumbers : Clock → ℕ → ℕ → List ℕ
 clockNumbers c noise pulse = flag (c .sounding) ∷ c .sample .0 ∷ c .interval .0 ∷ noise ∷ pulse ∷ []
 
--- 64..68, those of document 02: device; v and rr, 0 on the TMS5220; whether the frame holds; the order of the FIFO's bits
+-- 64..69, those of document 02: device; v and rr, 0 on the TMS5220; whether the frame holds; the order of the FIFO's bits; busy samples
 abbrev pub laterNumbers : Chip → List ℕ
 laterNumbers c =
     let d = c .control .device in
-    kindNumber d ∷ rateOf d .v ∷ rateOf d .rr ∷ flag (c .sound .hold) ∷ orderNumber (c .control .fifo .order) ∷ []
+    kindNumber d ∷ rateOf d .v ∷ rateOf d .rr ∷ flag (c .sound .hold) ∷ orderNumber (c .control .fifo .order) ∷ c .control .port .busy .0 ∷ []
 
 -- energy, pitch, K1..K10
 abbrev pub paramNumbers : Params → List ℤ
@@ -64,9 +64,14 @@ fifoOf s = record {
   order = orderOf (nth s 67);
 }
 
--- data pending, data byte, interrupt
+-- data pending, data byte, interrupt, busy samples
 abbrev pub portOf : List ℤ → Port
-portOf s = record { pending = flagOf (nth s 3); «data» = natural 255 (nth s 4); interrupt = flagOf (nth s 5) }
+portOf s = record {
+  pending = flagOf (nth s 3);
+  «data» = natural 255 (nth s 4);
+  interrupt = flagOf (nth s 5);
+  busy = samples (natural 255 (nth s 68));
+}
 
 -- sounding, sample, interval
 abbrev pub clockOf : List ℤ → Clock

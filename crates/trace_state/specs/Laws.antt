@@ -26,6 +26,7 @@ pub record InFormat (c : Chip) : Type 0 where
   pub position : c .control .address .position < 2 ^ 32
   pub «next_nibble» : c .control .address .«next_nibble» ≤ 255
   pub «data» : c .control .port .«data» ≤ 255
+  pub busy : c .control .port .busy .0 ≤ 255
   pub level : c .control .fifo .level ≤ 255
   pub «used_bits» : c .control .fifo .«used_bits» ≤ 255
   pub sixteen : length (c .control .fifo .bytes) ≡ 16

@@ -129,6 +129,7 @@ fn port_of(numbers: Numbers) -> Port
         pending: flag_at(numbers, 3),
         data: byte_at(numbers, 4),
         interrupt: flag_at(numbers, 5),
+        busy: Samples::of(byte_at(numbers, 68) as u64),
     }
 }
 

@@ -50,8 +50,9 @@ fn clock_numbers(clock: Clock, noise: u32, pulse: u32) -> [u64; 5]
     ]
 }
 
-// What document 02 added: the device, the rate that is set on it, whether the frame holds, and the order of the FIFO's bits.
-fn later_numbers(chip: Chip) -> [u64; 5]
+// What document 02 added: the device, the rate that is set on it, whether the frame holds, the order of the FIFO's bits, and the samples
+// for which a branch still keeps the chip busy.
+fn later_numbers(chip: Chip) -> [u64; 6]
     ensures { λ r. ⌜ r ≡ laterNumbers chip ⌝ }
 {
     let control = chip.control;
@@ -59,12 +60,15 @@ fn later_numbers(chip: Chip) -> [u64; 5]
     let rate = device.rate();
     let fifo = control.fifo;
     let order = fifo.order;
+    let port = control.port;
+    let busy = port.busy;
     [
         kind_number(device),
         rate.v as u64,
         rate.rr as u64,
         flag(chip.sound.hold),
         order_number(order),
+        busy.count(),
     ]
 }
 

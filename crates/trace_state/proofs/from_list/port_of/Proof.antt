@@ -4,4 +4,9 @@ use Rattle.trace_state.proofs.from_list.port_of.Statement.{statement}
 use Rattle.trace_state.proofs.from_list.port_of.Tie as tie
 
 pub port-of-spec : {M : Type 1} → statement M
-port-of-spec = tie.close (tie.spec (λ c κs. search needs) (λ c κs. search needs) (λ c κs. search needs) (λ c. rw (c .before .before .flag-at .ensures, c .before .byte-at .ensures, c .flag-at2 .ensures)))
+port-of-spec =
+    tie.close (tie.spec (λ c κs. search needs) (λ c κs. search needs) (λ c κs. search needs) (λ c κs. search needs) (λ c. search needs)
+    (λ c κs. search needs)
+    (λ c.
+    let b = c .before .before in
+    rw (c .of .ensures, c .before .byte-at2 .ensures, b .flag-at2 .ensures, b .before .byte-at .ensures, b .before .before .flag-at .ensures)))
