@@ -70,6 +70,8 @@ static bool valid(const struct chip *c)
         return false;
     if (c->pending ? c->mode != IDLE : c->byte != 0)
         return false;
+    if (c->busy > 2 || (c->busy && c->mode != IDLE))
+        return false;
     if (c->sample > 24 || c->interval > 7 || !sound_valid(&c->sound))
         return false;
     return c->sounding
@@ -101,7 +103,7 @@ static int write_fault(const struct chip *c, struct bytes image, enum command co
         return IMAGE;
     if (!valid(c))
         return STATE;
-    if (c->mode == ROM ? command != RESET : c->level == 16)
+    if (c->busy || (c->mode == ROM ? command != RESET : c->level == 16))
         return WAIT;
     if (c->mode == IDLE && beyond(c, image, command))
         return BEYOND;
@@ -131,6 +133,7 @@ static void branch(struct chip *c, struct bytes image)
     unsigned word = image.at[address] | image.at[address + 1] << 8;
     c->position = 8 * (address / 16384 * 16384 + word % 16384);
     c->nibble = 0;
+    c->busy = 2;
 }
 
 static void load_rate(struct chip *c, uint8_t byte)
@@ -316,6 +319,8 @@ static void take_step(struct chip *c, struct bytes image, struct bytes voice, st
     answer->report = NOTHING;
     answer->used_up = 0;
     answer->cut = (struct shortfall){0};
+    if (c->busy)
+        c->busy--;
     if (!c->sounding)
         return;
     if (c->sample == 0) {

@@ -83,6 +83,8 @@ struct chip {
     enum order order;
     bool pending, interrupt, sounding;
     uint8_t byte;
+    /* samples for which a branch still keeps the chip busy */
+    unsigned busy;
     unsigned sample, interval;
     struct sound sound;
 };

@@ -79,6 +79,15 @@ static void step(const struct version *v, size_t samples)
     speak_by(v->speak_by_steps, samples);
 }
 
+/* ---- a stop and nothing after it: all but the first 200 samples are those of a chip that does not sound */
+
+static void prepare_stop(void)
+{
+    prepare_voiced();
+    image.bytes[0] = 0xF0;
+    image.length = 1;
+}
+
 /* ---- speech from ROM by a TMS5220C, at the rate of a TMS5220: told once, or before each frame */
 
 static void speak_rated(rated_speak_call *speak, uint8_t v, size_t samples)
@@ -233,6 +242,7 @@ const struct workload workloads[] = {
     {"run, mixed, 5220C", "sample", 10000000, 20000, 120000, prepare_mixed, run_5220c},
     {"run, mixed, rate bits", "sample", 10000000, 20000, 120000, prepare_rate_zero, run_rate_bits},
     {"run, voiced, loud", "sample", 10000000, 20000, 120000, prepare_loud, run},
+    {"run, silent", "sample", 10000000, 20000, 120000, prepare_stop, run},
     {"external speech, most first", "sample", 2000000, 20000, 120000, prepare_mixed, external_most_first},
     {"external speech, least first", "sample", 2000000, 20000, 120000, prepare_least_first, external_least_first},
     {"step by step, mixed", "sample", 200000, 2000, 12000, prepare_mixed, step},
