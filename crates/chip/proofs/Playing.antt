@@ -1,5 +1,5 @@
--- Many steps at once: those of a chip that does not sound leave it as it is but for a branch's time, and within an interval in which a sample has been
--- made the control counts, and the sound plays on.
+-- Many steps at once: those of a chip that does not sound leave it as it is but for a branch's time, and within an interval in which a
+-- sample has been made the control counts, and the sound plays on.
 -- Assumes nothing.
 use mathlib.Core.Path.{_≡_, refl, sym, ap, _∙_, ap₂, subst}
 use mathlib.Core.Bool.{false, Bool, true, not, _&&_}

@@ -27,8 +27,7 @@ use Rattle.rates.proofs.Rates.{read-is}
 use Rattle.reports.proofs.RanOut.{nothing-not-out, frame-not-out}
 use Rattle.rom.proofs.Prefixed.{prefixed-cut}
 use Rattle.control.specs.Device.{rateOf}
-use Rattle.control.specs.State.{withClock}
-use Rattle.control.specs.State.{lessBusy}
+use Rattle.control.specs.State.{withClock, lessBusy}
 use Rattle.control.specs.Validity.{fifoValid, controlValid}
 use Rattle.control.proofs.Ranges.{control-ranges, mode-ranges, valid-fits}
 use Rattle.fifo.proofs.Held.{held-frame, held-cut}
