@@ -1,5 +1,5 @@
-//! A second program for document 01 and document 02's §3 to §6, §9 and §12: it
-//! reads a trace script on standard input and prints the answers on standard
+//! A second program for document 01 and document 02's §3 to §6, §9, §10 and §12:
+//! it reads a trace script on standard input and prints the answers on standard
 //! output.
 
 mod chip;

@@ -1,9 +1,9 @@
 //! Refusal numbers and device numbers. Every number is an i64.
 //!
 //! In all files: `01:` stands before words of document 01, `3:`, `4:`, `5:`,
-//! `6:`, `9:` and `12:` before words of document 02's §3, §4, §5, §6, §9 and
-//! §12, `D n` is a number of the list of decisions, `trace:` stands before words
-//! of the trace format.
+//! `6:`, `9:`, `10:` and `12:` before words of document 02's §3, §4, §5, §6, §9,
+//! §10 and §12, `D n` is a number of the list of decisions, `trace:` stands
+//! before words of the trace format.
 
 // 01: "Refusal numbers", column "No." and column "Name".
 pub const TAKEN: i64 = 0;

@@ -7,6 +7,8 @@ use crate::rate::{frame_rate, skipped_intervals};
 use crate::rom::{end, image_refusal, rom_frame};
 use crate::voice::{tables, voice_refusal, Tables};
 
+/// `thrown` is told of a stop and is 0 for each other step, as what is told of
+/// running out (D 68).
 pub struct Stepped {
     pub chip: Chip,
     pub refusal: i64,
@@ -14,6 +16,7 @@ pub struct Stepped {
     pub report: i64,
     pub frame: Frame,
     pub short: Short,
+    pub thrown: i64,
 }
 
 /// What a step that runs out tells besides; zeros for each other one (D 68).
@@ -44,7 +47,7 @@ pub fn step(image: &[u8], voice: &[u8], chip: Chip) -> Stepped {
     // 01: "A refused call returns the given state, zero for each number, no
     // frame".
     if refusal != TAKEN {
-        return Stepped { chip, refusal, sample: 0, report: NOTHING, frame: NO_FRAME, short: NOT_SHORT };
+        return Stepped { chip, refusal, sample: 0, report: NOTHING, frame: NO_FRAME, short: NOT_SHORT, thrown: 0 };
     }
     taken_step(image, &tables(voice), chip)
 }
@@ -100,7 +103,7 @@ fn rises(first: i64, second: i64, bit: i64) -> bool {
 }
 
 fn without_frame(chip: Chip, report: i64) -> Stepped {
-    Stepped { chip, refusal: TAKEN, sample: 0, report, frame: NO_FRAME, short: NOT_SHORT }
+    Stepped { chip, refusal: TAKEN, sample: 0, report, frame: NO_FRAME, short: NOT_SHORT, thrown: 0 }
 }
 
 /// A step but for the interrupt and the count of busy samples.
@@ -112,6 +115,7 @@ fn sounded(image: &[u8], tables: &Tables, given: Chip) -> Stepped {
         return without_frame(chip, NOTHING);
     }
     let mut frame = NO_FRAME;
+    let mut thrown = 0;
     // 01: "at an interval's first sample, take a frame if the interval is 0,
     // then interpolate; compute; count on." (D 42)
     if at_boundary(&chip) {
@@ -132,6 +136,7 @@ fn sounded(image: &[u8], tables: &Tables, given: Chip) -> Stepped {
         // D 105).
         chip.hold = i64::from(frame_holds(&given.targets, &chip.targets));
         if frame.kind == STOP {
+            thrown = thrown_bits(&chip);
             chip = stop(chip);
         }
     }
@@ -151,6 +156,7 @@ fn sounded(image: &[u8], tables: &Tables, given: Chip) -> Stepped {
         report: report_of(&frame),
         frame,
         short: NOT_SHORT,
+        thrown,
     }
 }
 
@@ -222,6 +228,14 @@ fn short_in_fifo(chip: &Chip, missing: i64) -> Short {
 /// still sounds." (D 99)
 fn stop(chip: Chip) -> Chip {
     Chip { mode: IDLE, ..empty_fifo(chip) }
+}
+
+/// 10: "a step that takes a stop from the FIFO also reports how many bits it
+/// throws away." They are those that the stop discards, so `chip` is the one
+/// whose FIFO the stop's own bits have left: these were given to the frame
+/// reader. In ROM speech no byte is held, and a stop there throws nothing away.
+fn thrown_bits(chip: &Chip) -> i64 {
+    held_bits(chip)
 }
 
 /// 01: "Either way: idle, sound at rest at once, sample 0, no frame reported."

@@ -1,7 +1,7 @@
 //! Tests: document 01's "Numbers to try", sizes at their bounds, each refusal
 //! number, the order of checks, the traps, the TMS5220C, how short a frame is,
 //! frames that hold, look and acknowledge, the FIFO's bit order, the time that a
-//! branch takes, the trace format, garbage.
+//! branch takes, the account of the FIFO's bits, the trace format, garbage.
 
 use crate::chip::*;
 use crate::frame::*;
@@ -887,7 +887,7 @@ fn not_sounding_changes_nothing() {
     for busy in 1..=2 {
         let stepped = taken(&[0], Chip { busy, ..quiet });
         assert_eq!((stepped.chip, stepped.sample, stepped.report), (Chip { busy: busy - 1, ..quiet }, 0, NOTHING));
-        assert_eq!((stepped.frame, stepped.short), (NO_FRAME, NOT_SHORT));
+        assert_eq!((stepped.frame, stepped.short, stepped.thrown), (NO_FRAME, NOT_SHORT, 0));
     }
 }
 
@@ -2266,6 +2266,275 @@ fn reads_work_while_busy() {
     }
 }
 
+// ---------------------------------------------------------------- where the bits go
+
+/// Each device, v and order; the account is one for all of them (D 86).
+fn all_told() -> Vec<Chip> {
+    let mut chips = Vec::new();
+    for order in [LEAST_FIRST, MOST_FIRST] {
+        for (device, v, rr) in [(TMS5220, 0, 0), (TMS5220C, 0, 3), (TMS5220C, 1, 0)] {
+            chips.push(Chip { v, rr, ..power_up_with(device, order) });
+        }
+    }
+    chips
+}
+
+/// External speech of this chip before a frame, with these bits fed in its
+/// order, of which so many are used.
+fn fed_to(told: Chip, text: &str, used: usize) -> Chip {
+    let (device, v, rr, order) = (told.device, told.v, told.rr, told.order);
+    Chip { device, v, rr, order, ..speech(&fed(order, text), used as i64) }
+}
+
+#[test]
+fn thrown_bits_to_try() {
+    // Nine FF and sixteen FF: of the first byte four bits are the stop's.
+    assert_eq!(taken(&[0], external(&[0xFF; 9])).thrown, 68);
+    assert_eq!(taken(&[0], external(&[0xFF; 16])).thrown, 124);
+    // With v = 1 six bits are.
+    let chip = writes(&[0], writes(&[0], power_up_of(TMS5220C), &[0x04, 0x60]), &[0xFF; 16]);
+    assert_eq!(taken(&[0], chip).thrown, 122);
+    // Behind frames: a repeat and a silence before the stop are not thrown away.
+    for order in [LEAST_FIRST, MOST_FIRST] {
+        let waiting = writes(&[0], power_up_with(TMS5220, order), &[0x60]);
+        let bytes = fed(order, &format!("0101 1 000011 0000 1111 {}", "0".repeat(61)));
+        let mut chip = writes(&[0], waiting, &bytes);
+        for (report, thrown) in [(FRAME, 0), (FRAME, 0), (STOPPED, 61)] {
+            let stepped = taken(&[0], chip);
+            assert_eq!((stepped.report, stepped.thrown), (report, thrown));
+            chip = steps(&[0], stepped.chip, 199);
+        }
+        assert_eq!((chip.mode, chip.level, chip.used), (IDLE, 0, 0));
+    }
+}
+
+#[test]
+fn stops_throw_away_what_is_behind_them() {
+    for told in all_told() {
+        let stop = if told.v == 1 { "101111" } else { "1111" };
+        // So many bits are left of the byte in which the stop ends, and so many
+        // bytes stand behind it.
+        for left in 0..8 {
+            let used = (16 - left - stop.len()) % 8;
+            for whole in 0..=15 {
+                let text = format!("{}{stop}{}", "0".repeat(used), "01101001".repeat(17)[..left + 8 * whole].to_string());
+                if text.len() > 128 {
+                    continue;
+                }
+                let chip = fed_to(told, &text, used);
+                assert_eq!(chip.level as usize, text.len() / 8);
+                let stepped = taken(&[0], chip);
+                assert_eq!((stepped.report, stepped.frame.kind), (STOPPED, STOP));
+                assert_eq!((stepped.thrown, stepped.short), ((left + 8 * whole) as i64, NOT_SHORT));
+                assert_eq!(held_bits(&stepped.chip), 0);
+                // A run throws the same away and tells nothing of it.
+                assert_eq!(steps(&[0], chip, 1), stepped.chip);
+            }
+        }
+    }
+}
+
+/// Steps that take no stop, that take it from ROM, and that are refused.
+#[test]
+fn other_steps_throw_nothing_away() {
+    for told in all_told() {
+        let rate = if told.v == 1 { "01" } else { "" };
+        let behind = "1011".repeat(9);
+        // From ROM, whatever stands behind the stop.
+        for image in [bits(&format!("{rate}1111")), bits(&format!("{rate}1111{behind}"))] {
+            let stepped = taken(&image, writes(&image, told, &[0x50]));
+            assert_eq!((stepped.report, stepped.thrown), (STOPPED, 0));
+        }
+        // A frame; one that runs out, cut and whole; a stop that is due later.
+        for (text, report) in [
+            (format!("{rate}0000{rate}1111{behind}"), FRAME),
+            (format!("{rate}0101 1"), RAN_OUT),
+            (format!("{rate}0101 1 000011"), RAN_OUT),
+        ] {
+            let used = (8 - digits(&text).len() % 8) % 8;
+            let stepped = taken(&[0], fed_to(told, &format!("{}{text}", "1".repeat(used)), used));
+            assert_eq!((stepped.report, stepped.thrown), (report, 0));
+        }
+        let stop = fed_to(told, &format!("{rate}1111{behind}"), 0);
+        for chip in [Chip { sample: 1, ..stop }, Chip { interval: 7, ..stop }] {
+            let stepped = taken(&[0], chip);
+            assert_eq!((stepped.report, stepped.thrown, held_bits(&stepped.chip)), (NOTHING, 0, held_bits(&chip)));
+        }
+        // Waiting at a boundary with bytes held, and idle behind the stop.
+        let waiting = Chip { mode: WAITING, ..stop };
+        let stepped = taken(&[0], waiting);
+        assert_eq!((stepped.report, stepped.thrown, stepped.chip.level), (NOTHING, 0, waiting.level));
+        let after = taken(&[0], stop).chip;
+        for count in [0, 48, 49, 198, 199, 200] {
+            assert_eq!(taken(&[0], steps(&[0], after, count)).thrown, 0);
+        }
+        // Refused.
+        for (image, file, chip) in [
+            (&[][..], voice(1), stop),
+            (&[0], voice(1)[..498].to_vec(), stop),
+            (&[0], voice(1), Chip { nibble: 5, ..stop }),
+        ] {
+            let stepped = step(image, &file, chip);
+            assert!(stepped.refusal != TAKEN);
+            assert_eq!((stepped.thrown, stepped.chip), (0, chip));
+        }
+    }
+}
+
+/// What a step has thrown away, from the chip before it.
+fn thrown_by_rule(before: &Chip, stepped: &Stepped) {
+    let stops = before.mode == EXTERNAL && stepped.report == STOPPED;
+    let stop_bits = 4 + 2 * before.v;
+    assert_eq!(stepped.thrown, if stops { 8 * before.level - before.used - stop_bits } else { 0 });
+}
+
+/// The bits of a frame, from its numbers.
+fn frame_bits(frame: &Frame, v: i64) -> Vec<i64> {
+    let mut fields = if v == 1 { vec![(frame.rate, 2)] } else { Vec::new() };
+    fields.push((frame.energy, 4));
+    if ![SILENCE, STOP].contains(&frame.kind) {
+        fields.extend([(i64::from(frame.kind == REPEAT), 1), (frame.pitch, 6)]);
+    }
+    let last = match frame.kind {
+        UNVOICED => 4,
+        VOICED => 10,
+        _ => 0,
+    };
+    fields.extend((1..=last).map(|i| (frame.k[i], K_BITS[i])));
+    fields.iter().flat_map(|(value, width)| (0..*width).rev().map(move |place| value >> place & 1)).collect()
+}
+
+/// §10's account: what goes into the FIFO and out of it, from the calls and
+/// their answers alone (D 85). `left` are the bits taken that are neither given
+/// nor thrown away yet, in order.
+struct Account {
+    on: bool,
+    device: i64,
+    order: i64,
+    v: i64,
+    bytes: i64,
+    given: i64,
+    thrown: i64,
+    left: Vec<i64>,
+}
+
+impl Account {
+    fn new(device: i64, order: i64) -> Account {
+        Account { on: false, device, order, v: 0, bytes: 0, given: 0, thrown: 0, left: Vec::new() }
+    }
+    fn wrote(&mut self, byte: i64, refusal: i64) {
+        if refusal != TAKEN {
+            return;
+        }
+        if self.on {
+            self.bytes += 1;
+            let byte = in_rom(self.order, byte);
+            self.left.extend((0..8).rev().map(|place| i64::from(byte >> place & 1)));
+            return;
+        }
+        match byte >> 4 & 7 {
+            6 => self.on = true,
+            7 => self.v = 0,
+            0 | 2 if self.device == TMS5220C => self.v = byte >> 2 & 1,
+            _ => {}
+        }
+    }
+    fn stepped(&mut self, answer: &Stepped) {
+        if !self.on {
+            assert_eq!((answer.thrown, answer.short.used_up), (0, 0));
+            return;
+        }
+        let bits = frame_bits(&answer.frame, self.v);
+        match answer.report {
+            FRAME => self.give(&bits),
+            STOPPED => {
+                self.give(&bits);
+                self.thrown += answer.thrown;
+                self.left.drain(..answer.thrown as usize);
+            }
+            RAN_OUT => {
+                let used_up: Vec<i64> = self.left[..answer.short.used_up as usize].to_vec();
+                self.give(&used_up);
+            }
+            _ => assert_eq!((answer.thrown, answer.short), (0, NOT_SHORT)),
+        }
+        self.on = answer.report != STOPPED && answer.report != RAN_OUT;
+    }
+    fn give(&mut self, bits: &[i64]) {
+        assert_eq!(bits, &self.left[..bits.len()]);
+        self.left.drain(..bits.len());
+        self.given += bits.len() as i64;
+    }
+    fn holds(&self, chip: &Chip) {
+        assert_eq!(8 * self.bytes, self.given + self.thrown + held_bits(chip));
+        assert_eq!(self.left.len() as i64, held_bits(chip));
+    }
+}
+
+/// 10: "over any sequence of calls from power-up, each on the chip last handed
+/// back, eight times the bytes taken into the FIFO equals [..]". Each call has
+/// its own image and voice file (D 110).
+#[test]
+fn the_account_holds() {
+    let mut dice = Dice(0x1010_1010);
+    let (good, bad) = (voice(3), voice(3)[..498].to_vec());
+    let (mut bytes, mut given, mut thrown, mut held) = (0, 0, 0, 0);
+    for round in 0..400 {
+        let (device, order) = (round / 2 % 2, round % 2);
+        let mut chip = power_up_with(device, order);
+        let mut account = Account::new(device, order);
+        for _ in 0..400 {
+            let length = 1 + dice.below(6) as usize;
+            let image = if dice.below(20) == 0 { Vec::new() } else { dice.bytes(length) };
+            let file = if dice.below(20) == 0 { &bad } else { &good };
+            match dice.below(8) {
+                0 => chip = read(chip).chip,
+                1 => chip = acknowledge(chip).chip,
+                // A run, as its steps.
+                2 => {
+                    let mut stepwise = chip;
+                    let mut buffer = vec![9_999; [1, 50, 199, 200, 600][dice.below(5) as usize]];
+                    for _ in &buffer {
+                        let answer = step(&image, file, stepwise);
+                        account.stepped(&answer);
+                        stepwise = answer.chip;
+                    }
+                    chip = run(&image, file, chip, &mut buffer).chip;
+                    assert_eq!(chip, stepwise);
+                }
+                3 => {
+                    let answer = step(&image, file, chip);
+                    account.stepped(&answer);
+                    chip = answer.chip;
+                }
+                // A command that leads on, more bytes than the FIFO holds.
+                kind => {
+                    let byte = match dice.below(6) {
+                        0 => 0x60,
+                        1 => dice.below(8) as i64,
+                        2 => 0x10 * dice.below(8) as i64,
+                        _ => dice.within(0, 255),
+                    };
+                    for _ in 0..[1, 5, 9, 18][kind as usize - 4] {
+                        let byte = if account.on { [0, 0xFF, dice.within(0, 255)][dice.below(3) as usize] } else { byte };
+                        let answer = write(&image, chip, byte);
+                        account.wrote(byte, answer.refusal);
+                        chip = answer.chip;
+                        account.holds(&chip);
+                    }
+                }
+            }
+            account.holds(&chip);
+        }
+        bytes += account.bytes;
+        given += account.given;
+        thrown += account.thrown;
+        held += held_bits(&chip);
+    }
+    assert_eq!(8 * bytes, given + thrown + held);
+    assert!(given > 100_000 && thrown > 30_000 && held > 1_000, "{given} {thrown} {held}");
+}
+
 // ---------------------------------------------------------------- laws
 
 /// The count stands in the way of written bytes and of nothing else; what a
@@ -2298,7 +2567,8 @@ fn busy_stands_beside_the_rest() {
         let (mut one, mut two) = (chip, other);
         for count in 1..4 {
             let (left, right) = (step(&image, &file, one), step(&image, &file, two));
-            assert_eq!((left.sample, left.report, left.frame, left.short), (right.sample, right.report, right.frame, right.short));
+            assert_eq!((left.sample, left.report, left.frame), (right.sample, right.report, right.frame));
+            assert_eq!((left.short, left.thrown), (right.short, right.thrown));
             assert_eq!(left.chip, Chip { busy: (chip.busy - count).max(0), ..right.chip });
             assert_eq!(right.chip.busy, 0);
             (one, two) = (left.chip, right.chip);
@@ -2330,7 +2600,8 @@ fn orders_are_mirrors() {
         let (mut one, mut two) = (chip, other);
         for _ in 0..dice.below(3) {
             let (left, right) = (step(&image, &file, one), step(&image, &file, two));
-            assert_eq!((right.sample, right.report, right.frame, right.short), (left.sample, left.report, left.frame, left.short));
+            assert_eq!((right.sample, right.report, right.frame), (left.sample, left.report, left.frame));
+            assert_eq!((right.short, right.thrown), (left.short, left.thrown));
             assert_eq!(right.chip, mirrored(left.chip));
             (one, two) = (left.chip, right.chip);
         }
@@ -2375,6 +2646,7 @@ fn laws_over_valid_states() {
             stepwise = stepped.chip;
             held_by_rule(&before, &stepped);
             short_by_rule(&image, &before, &stepped);
+            thrown_by_rule(&before, &stepped);
             let fell = speaking(before.mode) && !speaking(stepwise.mode);
             assert_eq!(fell, stepped.report == STOPPED || stepped.report == RAN_OUT);
             assert!(!fell || stepwise.interrupt == 1);
@@ -2468,9 +2740,9 @@ fn trace_answers() {
     assert_eq!(played(b"QLK"), format!("Q 0\n{0}L 0 96\n{0}K 0\n{0}", power_line_of(TMS5220C)));
     // The empty image and voice at first.
     assert_eq!(played(b"W\x70"), format!("W 3\n{}", power_line()));
-    assert_eq!(played(b"T"), format!("T 3 0 0{}\n{}", " 0".repeat(17), power_line()));
+    assert_eq!(played(b"T"), format!("T 3 0 0{}\n{}", " 0".repeat(18), power_line()));
     assert_eq!(played(b"U\x02\0\0\0"), format!("U 3 0\n{}", power_line()));
-    assert_eq!(played(b"I\x01\0\0\0\xFFT"), format!("I 1\nT 5 0 0{}\n{}", " 0".repeat(17), power_line()));
+    assert_eq!(played(b"I\x01\0\0\0\xFFT"), format!("I 1\nT 5 0 0{}\n{}", " 0".repeat(18), power_line()));
     assert_eq!(played(b"V\0\0\0\0"), "V 5\n");
     assert_eq!(played(&counted(b'V', &voice(1))), "V 0\n");
     assert_eq!(played(&numbered(b'F', 0)), format!("F 3 0{}\n", " 0".repeat(15)));
@@ -2563,7 +2835,7 @@ fn trace_busy() {
         numbers[68] = busy;
         format!("C{}\n", numbers.iter().map(|number| format!(" {number}")).collect::<String>())
     };
-    let none = " 0".repeat(17);
+    let none = " 0".repeat(18);
     for (up, device) in [("P", TMS5220), ("Q", TMS5220C)] {
         let script = [&start[..], up.as_bytes(), b"W\x30W\x70LTW\x05W\x30RTW\x70"].concat();
         let [two, one, gone] = [2, 1, 0].map(|busy| line(device, 40, busy));
@@ -2600,7 +2872,7 @@ fn trace_cuts() {
     let start = [image, counted(b'V', &voice(3)), b"PW\x50".to_vec(), numbered(b'U', 400)].concat();
     let text = played(&[start, b"TT".to_vec()].concat());
     let told: Vec<&str> = text.lines().filter(|line| line.starts_with('T')).collect();
-    assert_eq!(told, [format!("T 0 0 3{none} 0 15 0 3"), format!("T 0 0 0{none} 0 0 0 0")]);
+    assert_eq!(told, [format!("T 0 0 3{none} 0 15 0 3 0"), format!("T 0 0 0{none} 0 0 0 0 0")]);
     // From the FIFO: seventeen silences, and the eighteenth with the last bit;
     // then another speech whose last bits are 0001, the last of them the byte's
     // highest.
@@ -2608,8 +2880,28 @@ fn trace_cuts() {
         let bytes: Vec<u8> = [0; 8].into_iter().chain([last]).flat_map(|byte| [b'W', byte]).collect();
         let speak = [counted(b'I', &[0]), counted(b'V', &voice(3)), b"W\x60".to_vec(), bytes, numbered(b'U', 3_400)].concat();
         let text = played(&[speak, b"T".to_vec()].concat());
-        assert_eq!(text.lines().rev().nth(1), Some(&format!("T 0 0 3{none} 0 {line}")[..]));
+        assert_eq!(text.lines().rev().nth(1), Some(&format!("T 0 0 3{none} 0 {line} 0")[..]));
     }
+}
+
+/// trace: "`T refusal sample report FRAME rate begun used missing thrown`".
+#[test]
+fn trace_thrown() {
+    let start = [counted(b'I', &[0xF1]), counted(b'V', &voice(3))].concat();
+    let stop = format!(" 2 15{}", " 0".repeat(11));
+    let told = |calls: &[&[u8]]| {
+        let text = played(&[&start[..], &calls.concat()].concat());
+        text.lines().filter(|line| line.starts_with('T')).map(str::to_string).collect::<Vec<String>>()
+    };
+    let bytes = |count: usize| [b'W', 0xFF].repeat(count);
+    // From the FIFO: 68 bits behind the stop, then none; with rate bits 122.
+    assert_eq!(told(&[b"W\x60", &bytes(9), b"TT"]), [format!("T 0 0 2{stop} 0 0 0 0 68"), format!("T 0 0 0{}", " 0".repeat(18))]);
+    assert_eq!(told(&[b"QW\x04W\x60", &bytes(16), b"T"]), [format!("T 0 0 2{stop} 3 0 0 0 122")]);
+    // From ROM, where four bits are behind it.
+    assert_eq!(told(&[b"W\x50T"]), [format!("T 0 0 2{stop} 0 0 0 0 0")]);
+    // Refused.
+    let refused = told(&[b"W\x60", &bytes(9), &counted(b'V', b""), b"T"]);
+    assert_eq!(refused, [format!("T 5 0 0{}", " 0".repeat(18))]);
 }
 
 #[test]
@@ -2663,7 +2955,7 @@ fn trace_states() {
             numbered(b'U', 1),
         ]
         .concat();
-        let none = " 0".repeat(17);
+        let none = " 0".repeat(18);
         let refused = format!("W 4\n{line}R 4 0\n{line}T 4 0 0{none}\n{line}L 4 0\n{line}K 4\n{line}U 4 0\n{line}");
         let expected = format!("I 1\nV 0\n{line}{refused}");
         assert_eq!(played(&script), expected);

@@ -227,19 +227,21 @@ impl Player<'_, '_> {
     }
 
     /// trace: "`T refusal sample report FRAME`, and what is said below, then
-    /// `C`": "§5 | rate", "§4 | begun", "§4 | used", "§4 | missing".
+    /// `C`": "§5 | rate", "§4 | begun", "§4 | used", "§4 | missing", "§10 |
+    /// thrown".
     fn step_record(&mut self) -> Option<io::Result<()>> {
         let answer = step(self.image, self.voice, self.chip);
         self.chip = answer.chip;
         let line = writeln!(
             self.out,
-            "T {} {} {}{} {}{}",
+            "T {} {} {}{} {}{} {}",
             answer.refusal,
             answer.sample,
             answer.report,
             frame_text(&answer.frame),
             answer.frame.rate,
-            short_text(&answer.short)
+            short_text(&answer.short),
+            answer.thrown
         );
         Some(line.and_then(|()| self.chip_line()))
     }
