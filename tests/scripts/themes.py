@@ -827,15 +827,67 @@ def busy_states(pick):
 OF_BUSY = [branches_in_themes, word_tables, branches_in_stops, busy_states]
 
 
+# ---- the account of the FIFO's bits
+
+def any_stop_speech(pick, v, rr):
+    """Some frames and a stop, or none at times, and the samples of each frame before it."""
+    rates = [pick.below(4) if v else rr for _ in range(pick.between(1, 4))]
+    row = [images.any_changing_frames(pick, 1, False) for _ in rates[1:]]
+    row.append(images.STOP if pick.chance(75) else images.any_frame(pick))
+    text = ''.join(images.rated(rate, frame) if v else frame for rate, frame in zip(rates, row))
+    return text, [200 - 50 * rate for rate in rates[:-1]]
+
+
+# Speeches one after another on any power-up, each up to its stop, with any number of bytes behind it; more bytes than the FIFO
+# takes, refused steps, a stop from ROM and other commands between them.
+def fifo_stops(pick):
+    device, order, up = any_power_up(pick)
+    out = image(images.pack(images.STOP, '1')) + hushed_voice(pick) + up
+    for _ in range(pick.between(1, 5)):
+        v, rr = pick.below(2) if device == TMS5220C else 0, pick.below(4)
+        text, lengths = any_stop_speech(pick, v, rr if device == TMS5220C else 0)
+        data = images.fed(order, text, pick.one_of('01'))
+        data += pick.one_of([bytes(17), pick.bytes(17)])[:max(pick.between(9, 17) - len(data), 0)]
+        out += set_rate(pick, v, rr) + write(SPEAK_EXTERNAL, *data[:17])
+        for length in lengths:
+            out += pick.one_of([run(length), run(length), step() + run(length - 1)])
+            out += write(*data[17:]) if pick.chance(30) else b''
+        out += pick.one_of([b'', b'', b'', voice(b'') + step() + run(1) + hushed_voice(pick)])
+        out += pick.one_of([step(), step(), step(2), step(), run(2)])
+        # what may come before the next speech
+        out += pick.one_of([b'', run(pick.below(210)), load_address(0) + write(SPEAK) + step(2), write(RESET), rated_calls(pick, 3)])
+    return out
+
+
+# States of external speech with a stop next, in both orders, with any used bits and any number of bytes behind it.
+def stop_states(pick):
+    out = good_image(pick) + (hushed_voice(pick) if pick.chance(40) else b'')
+    for _ in range(pick.between(1, 3)):
+        order, v, used = pick.below(2), pick.below(2), pick.below(8)
+        device = {'device': states.TMS5220C, 'v': v, 'rr': pick.below(4)} if v or pick.chance(50) else {}
+        text = pick.one_of('01') * used + (images.rated(pick.below(4), images.STOP) if v else images.STOP)
+        data = images.fed(order, text, pick.one_of('01')) + pick.one_of([bytes(14), pick.bytes(14)])[:pick.below(15)]
+        fields = {'mode': states.EXTERNAL, 'sounding': 1, 'level': len(data), 'used': used, 'order': order, **device}
+        fields.update({states.FIFO[i]: byte for i, byte in enumerate(data)})
+        # a range that is broken, or a frame that is not over
+        if pick.chance(20):
+            fields.update(pick.one_of([{'nibble': 5}, {'busy': 1}, {'sample': 24, 'interval': 7}, {'mode': states.WAITING}]))
+        out += state_of(states.powered_up(**fields)) + pick.one_of([step(2), step(), run(1), write(pick.below(256)) + step()])
+    return out
+
+
+OF_BITS = [fifo_stops, stop_states]
+
+
 def weighed(of, often):
     """A list of themes of the length of the first one; the theme that stands for many comes oftener."""
     return of + [often] * (len(OF_01) - len(of))
 
 
-# a seventh of the themes of a random script are of each list
+# an eighth of the themes of a random script are of each list
 ALL = OF_01 + weighed(OF_RATES, themes_of_01) + weighed(OF_LOOKS, looks_in_themes) + weighed(OF_HOLDS, hold_states)
 ALL += OF_CUTS * (len(OF_01) // len(OF_CUTS)) + OF_ORDERS * (len(OF_01) // len(OF_ORDERS))
-ALL += OF_BUSY * (len(OF_01) // len(OF_BUSY))
+ALL += OF_BUSY * (len(OF_01) // len(OF_BUSY)) + OF_BITS * (len(OF_01) // len(OF_BITS))
 
 
 def any_script(pick, size):
@@ -851,8 +903,8 @@ def any_script(pick, size):
     while len(out) < size:
         theme = pick.one_of(ALL)
         part = theme(pick)
-        # the lists but §9's have most significant first; half of what is made of them is played with the other order
-        out += in_order(pick, part) if theme not in OF_ORDERS and pick.chance(50) else part
+        # the lists but §9's and §10's have most significant first; half of what is made of them is played with the other order
+        out += in_order(pick, part) if theme not in OF_ORDERS + OF_BITS and pick.chance(50) else part
     if pick.chance(10):
         too_long, cut = [run(LONGEST_RUN + 1), run(2 ** 32 - 1)], [image(b'\xff')[:3], voice(bytes(9))[:-1]]
         cut += [rated_frame_at(1, 0)[:-1], rated_walk(1, 2, 0)[:-1]]
