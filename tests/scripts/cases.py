@@ -47,7 +47,7 @@ def voice_faults():
 
 # The random themes, each once, but for the last, whose runs are long.
 def some_of_each_theme():
-    return b''.join(theme(Pick(5220 + at)) for at, theme in enumerate(themes.OF_01[:-1]))
+    return b''.join(theme(Pick(5251 + at)) for at, theme in enumerate(themes.OF_01[:-1]))
 
 
 # One run of the longest kind: a phrase, its end, silence.
