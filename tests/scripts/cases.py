@@ -3,6 +3,7 @@ some of each random theme."""
 import states
 import themes
 import voices
+from cases_account import ACCOUNT_TOPICS
 from cases_busy import BUSY_TOPICS
 from cases_commands import *
 from cases_hold import HOLD_TOPICS
@@ -62,7 +63,7 @@ TOPICS = [first_chip, numbers_walks, numbers_addresses, numbers_status, numbers_
           numbers_voices, order_of_checks, frames_at_bits, walks, loads, restarts, read_bytes, every_command, statuses,
           ninth_byte, fifo_ends, interrupts, external_paces, spoken_kinds, rom_ends, image_changes, boundaries, interpolations,
           excitations, filters, state_edges, voice_faults, some_of_each_theme, longest_run, numbers_images]
-TOPICS += RATE_TOPICS + LOOK_TOPICS + HOLD_TOPICS + SHORT_TOPICS + ORDER_TOPICS + BUSY_TOPICS
+TOPICS += RATE_TOPICS + LOOK_TOPICS + HOLD_TOPICS + SHORT_TOPICS + ORDER_TOPICS + BUSY_TOPICS + ACCOUNT_TOPICS
 
 
 def stored_script():
