@@ -236,8 +236,8 @@ def follow_step(account, line):
     if report == b'0':
         return '' if told == UNTOLD else 'a step without a report tells something'
     numbers = [int(number) for number in told.split()]
-    if refusal != b'0':
-        return 'a refused step reports something'
+    if refusal != b'0' or len(numbers) != 18:
+        return f'a step is answered {line.decode()}'
     return account.stepped(int(report), numbers[:13], numbers[13], numbers[15], numbers[17])
 
 
