@@ -70,7 +70,8 @@ class Account:
     def stepped(self, report, frame, rate, used, thrown):
         """What is wrong with a step that reports this, if anything is."""
         if (used and not (self.on and report == RAN_OUT)) or (thrown and not (self.on and report == STOPPED)):
-            return f'a step with report {report} tells {used} bits used up and {thrown} thrown away, bytes for the FIFO {self.on}'
+            where = 'FIFO' if self.on else 'ROM'
+            return f'a step with report {report} in speech from the {where} tells {used} bits used up and {thrown} thrown away'
         if not self.on or report == NOTHING:
             return ''
         if report != RAN_OUT:
@@ -168,8 +169,8 @@ class Part:
         for call in self.calls:
             if call.number in runs:
                 call.steps = lines[at:at + 2 * call.length()]
-                samples = [line.split(b' ', 3)[2] for line in call.steps[::2]]
-                if samples != call.line.split()[3:] or call.steps[-1] != call.chip:
+                taken = [line.split(b' ', 3)[1:3] for line in call.steps[::2]]
+                if taken != [[b'0', sample] for sample in call.line.split()[3:]] or call.steps[-1] != call.chip:
                     raise Fault(call.number, 'its steps give other samples or another chip than the run')
                 at += len(call.steps)
                 continue
@@ -199,12 +200,14 @@ def play_steps(program, parts):
         batch, script, there = [], b'', {}
         for part in waiting:
             ahead, own = part.unrolled(there)
-            if batch and len(script + ahead + own) > MOST_SCRIPT_BYTES:
+            if batch and len(script) + len(ahead) + len(own) > MOST_SCRIPT_BYTES:
                 break
             batch.append((part, sum(more for *_, more in records(ahead))))
             script, there = script + ahead + own, part.after()
         assert len(script) <= MOST_SCRIPT_BYTES
         lines, at = play(program, script).split(b'\n'), 0
+        if len(lines) - 1 != sum(more for *_, more in records(script)):
+            raise Fault(batch[0][0].calls[0].number, 'from here on not all is answered where runs are played as steps')
         for part, ahead in batch:
             at = part.answered(lines, at + ahead)
         waiting = waiting[len(batch):]

@@ -87,7 +87,9 @@ def thrown_once():
         out += voice(b'') + step() + run(1) + image(b'') + step() + START + step(3)
         # the frame of a stop with rate bits has as many samples as one of RATE
         out += run(samples(device) - 3) + step() + write(load(0), SPEAK) + step(2)
-    return out + stop_state(TMS5220C, 1, MOST_FIRST, 2, 3, rr=4) + step() + stop_state(TMS5220, 0, LEAST_FIRST, 4, 2, sample=1) + step()
+    # a rate that is out of range, and a frame that is not over
+    out += stop_state(TMS5220C, 1, MOST_FIRST, 2, 3, rr=4) + step()
+    return out + stop_state(TMS5220, 0, LEAST_FIRST, 4, 2, sample=1) + step()
 
 
 # A full FIFO, whose seventeenth byte is refused; a run that takes the stop and tells nothing, and the step behind it; frames that

@@ -855,7 +855,8 @@ def fifo_stops(pick):
         out += pick.one_of([b'', b'', b'', voice(b'') + step() + run(1) + hushed_voice(pick)])
         out += pick.one_of([step(), step(), step(2), step(), run(2)])
         # what may come before the next speech
-        out += pick.one_of([b'', run(pick.below(210)), load_address(0) + write(SPEAK) + step(2), write(RESET), rated_calls(pick, 3)])
+        from_rom = load_address(0) + write(SPEAK) + step(2)
+        out += pick.one_of([b'', run(pick.below(210)), from_rom, write(RESET), rated_calls(pick, 3)])
     return out
 
 
