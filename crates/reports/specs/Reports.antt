@@ -33,9 +33,13 @@ reportNumbers r = reportNumber r ∷ numbersOf (reportFrame r)
 abbrev pub frameReport : Frame → Report
 frameReport f = cond (isStop f) StopReport (FrameReport f)
 
+-- with a frame's rate bits, and the bits that it throws away (02, §10)
+abbrev pub ofFrame : ℕ → ℕ → Details
+ofFrame q lost = record { rate = q; begun = 0; «used_up» = 0; missing = 0; thrown = lost }
+
 -- with a frame's rate bits
 abbrev pub rated : ℕ → Details
-rated q = record { rate = q; begun = 0; «used_up» = 0; missing = 0 }
+rated q = ofFrame q 0
 
 -- with nothing besides
 abbrev pub noDetails : Details
@@ -43,11 +47,11 @@ noDetails = rated 0
 
 -- running out in the ROM, with the bit at which the cut frame begins and the bits that it lacks (02, §4)
 abbrev pub outOfRom : Shortfall → Details
-outOfRom h = record { rate = 0; begun = h .begun; «used_up» = 0; missing = h .missing }
+outOfRom h = record { rate = 0; begun = h .begun; «used_up» = 0; missing = h .missing; thrown = 0 }
 
 -- running out in the FIFO, with the bits used up and those that the frame lacks, and no place (02, §4)
 abbrev pub outOfFifo : ℕ → ℕ → Details
-outOfFifo used missing = record { rate = 0; begun = 0; «used_up» = used; missing = missing }
+outOfFifo used missing = record { rate = 0; begun = 0; «used_up» = used; missing = missing; thrown = 0 }
 
 -- what the sound counts on: a frame that begins is one of the table, and an interval is one of a frame's
 abbrev pub Playable : ℕ → Action → Type 0

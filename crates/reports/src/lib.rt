@@ -1,6 +1,6 @@
 // What a sample step reports, and what it asks of the sound.
 ghost use mathlib.Core.Path.{_≡_};
-ghost use Rattle.reports.specs.Reports.{reportNumber, reportFrame, frameReport, noDetails, rated, outOfRom, outOfFifo};
+ghost use Rattle.reports.specs.Reports.{reportNumber, reportFrame, frameReport, ofFrame, noDetails, rated, outOfRom, outOfFifo};
 use base::units::Intervals;
 use rom::frames::Frame;
 use rom::frames::MaybeFrame;
@@ -25,6 +25,8 @@ pub struct Details {
     pub used_up: usize,
     // Ran out: the bits that the cut frame lacks.
     pub missing: usize,
+    // A stop from the FIFO: the bits behind it, which it throws away.
+    pub thrown: usize,
 }
 
 impl Details {
@@ -37,11 +39,18 @@ impl Details {
     pub fn rated(rate: u8) -> Details
         ensures { λ r. ⌜ r ≡ rated rate ⌝ }
     {
+        Self::of_frame(rate, 0)
+    }
+
+    pub fn of_frame(rate: u8, thrown: usize) -> Details
+        ensures { λ r. ⌜ r ≡ ofFrame rate thrown ⌝ }
+    {
         Details {
             rate,
             begun: 0,
             used_up: 0,
             missing: 0,
+            thrown,
         }
     }
 
@@ -53,6 +62,7 @@ impl Details {
             begun: short.begun,
             used_up: 0,
             missing: short.missing,
+            thrown: 0,
         }
     }
 
@@ -64,6 +74,7 @@ impl Details {
             begun: 0,
             used_up,
             missing,
+            thrown: 0,
         }
     }
 }

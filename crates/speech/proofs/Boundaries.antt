@@ -19,7 +19,7 @@ use Rattle.rom.specs.declared.reader.FrameAnswer.the-variants.{Whole, Cut}
 use Rattle.rom.specs.declared.reader.Shortfall.{Shortfall}
 use Rattle.clock.specs.Counters.{begun, counted, frameBegins}
 use Rattle.fifo.specs.Buffer.{fifoSize, emptied, usedUp, heldBytes}
-use Rattle.reports.specs.Reports.{frameReport, noDetails, rated, outOfRom}
+use Rattle.reports.specs.Reports.{frameReport, noDetails, ofFrame, rated, outOfRom}
 use Rattle.rates.specs.Rates.{prefixBits, skippedWith}
 use Rattle.rates.specs.Form.{Item, readItem, shortAt}
 use Rattle.rates.specs.declared.rate.FrameRate.{FrameRate}
@@ -32,19 +32,19 @@ use Rattle.control.specs.Validity.{fifoValid, controlValid}
 use Rattle.control.proofs.Ranges.{control-ranges, mode-ranges, valid-fits}
 use Rattle.fifo.proofs.Held.{held-frame, held-cut}
 use Rattle.speech.specs.Types.{Mode, Idle, Rom, Waiting, External, Fifo, Clock, Control, Details, Report, NoReport, RanOut, Action, Silent, Begin, Moved}
-use Rattle.speech.specs.Advance.{within, changed, frameBegun, ranOut, fromRom, fifoOut, fromFifo, formOf, boundaryIn, advancedFrom}
+use Rattle.speech.specs.Advance.{within, changed, frameBegun, ranOut, fromRom, fifoOut, fromFifo, formOf, thrownBy, boundaryIn, advancedFrom}
 use Rattle.speech.specs.Laws.{FifoFrame, FifoEnds, RomEnds}
 
 -- a frame that begins, from what its calls give
-module _ (k : Control) (q : ℕ) (f : Frame) (p : ℕ) (held : Fifo) {d : Control} {n : Intervals} {t : Clock} {r : Report} {e : Details}
-    (x : n ≡ skippedWith (rateOf (k .device)) q) (y : t ≡ counted (begun n (k .clock))) (z : r ≡ frameReport f) (w : e ≡ rated q) where
+module _ (k : Control) (q : ℕ) (f : Frame) (p : ℕ) (held : Fifo) {d : Control} {n : Intervals} {t : Clock} {r : Report} (e : Details)
+    (x : n ≡ skippedWith (rateOf (k .device)) q) (y : t ≡ counted (begun n (k .clock))) (z : r ≡ frameReport f) where
   pub stop-begun : {g : Fifo} → isStop f ≡ true → d ≡ changed k Idle p g t → g ≡ emptied held
-      → record { control = d; action = Begin f n; report = r; details = e } ≡ frameBegun k (q, f) p held
-  stop-begun s c h = rw (z, w, s, c, h, y, x)
+      → record { control = d; action = Begin f n; report = r; details = e } ≡ frameBegun k (q, f) p held e
+  stop-begun s c h = rw (z, s, c, h, y, x)
 
   pub frame-begun : isStop f ≡ false → d ≡ changed k (k .mode) p held t
-      → record { control = d; action = Begin f n; report = r; details = e } ≡ frameBegun k (q, f) p held
-  frame-begun s c = rw (z, w, s, c, y, x)
+      → record { control = d; action = Begin f n; report = r; details = e } ≡ frameBegun k (q, f) p held e
+  frame-begun s c = rw (z, s, c, y, x)
 
 -- what the reader of items returns, from what its calls give
 module _ (P : ℕ) (k : Control) (s : List ℕ) (at : ℕ) {r : FrameRate} {Q q : ℕ} {x : FrameAnswer}
@@ -60,7 +60,7 @@ module _ (P : ℕ) (k : Control) (s : List ℕ) (at : ℕ) {r : FrameRate} {Q q 
 
 module _ (P : ℕ) (image : List ℕ) (k : Control) where
   pub rom-whole : {r : Moved} {i : Item} {next : ℕ} → whole i next ≡ readItem (formOf P k) image (k .address .position)
-      → r ≡ frameBegun k i next (k .fifo) → r ≡ fromRom image k (readItem (formOf P k) image (k .address .position))
+      → r ≡ frameBegun k i next (k .fifo) (rated (i .0)) → r ≡ fromRom image k (readItem (formOf P k) image (k .address .position))
   rom-whole e r = r ∙ ap (fromRom image k) e
 
   pub rom-cut : {r : Moved} {p : ℕ} {h : Shortfall} {d : Details} → cut h ≡ readItem (formOf P k) image (k .address .position) → d ≡ outOfRom h
@@ -88,7 +88,7 @@ module _ (P : ℕ) (image : List ℕ) (k : Control) where
 
 module _ (P : ℕ) (k : Control) {r : Moved} where
   module _ {i : Item} {next : ℕ} (e : whole i next ≡ readItem (formOf P k) (heldBytes (k .fifo)) (k .fifo .«used_bits»)) where
-    pub fifo-whole : (isStop (i .1) || ltb next (8 * k .fifo .level)) ≡ true → r ≡ frameBegun k i (k .address .position) (usedUp (k .fifo) next)
+    pub fifo-whole : (isStop (i .1) || ltb next (8 * k .fifo .level)) ≡ true → r ≡ frameBegun k i (k .address .position) (usedUp (k .fifo) next) (ofFrame (i .0) (thrownBy k (i .1) next))
         → r ≡ fromFifo k (readItem (formOf P k) (heldBytes (k .fifo)) (k .fifo .«used_bits»))
     fifo-whole t r = r ∙ sym (cond-true _ _ _ t) ∙ ap (fromFifo k) e
 

@@ -131,15 +131,15 @@ module _ (P : ℕ) (image : List ℕ) (small : length image ≤ imageLimit) (k :
   read-law s at i next e = prefixed-law (formOf P k .prefix) P s .law at i next .0 e
 
   module _ (on : k .clock .sounding ≡ true) where
-    begun-kept : (i : Item) (p : ℕ) (g : Fifo) → Proper P (i .1) → p ≤ positionLimit → (isStop (i .1) ≡ false → fifoValid (k .mode) g ≡ true)
-        → Kept P k (frameBegun k i p g)
-    begun-kept (q, f) p g proper l h =
+    begun-kept : (i : Item) (p : ℕ) (g : Fifo) (e : Details) → Proper P (i .1) → p ≤ positionLimit → (isStop (i .1) ≡ false → fifoValid (k .mode) g ≡ true)
+        → Kept P k (frameBegun k i p g e)
+    begun-kept (q, f) p g e proper l h =
         let t = begun (skippedWith (rateOf (k .device)) q) (k .clock) in
         record {
           control =
               either-way (isStop f)
-              (λ e. rw e (changed-ranges Idle p (emptied g) (counted t) l (λ i. refl) refl (counted-valid false t on)))
-              (λ e. rw e (changed-ranges (k .mode) p g (counted t) l (λ i. i) (h e) (counted-valid (speaks (k .mode)) t on)));
+              (λ s. rw s (changed-ranges Idle p (emptied g) (counted t) l (λ i. refl) refl (counted-valid false t on)))
+              (λ s. rw s (changed-ranges (k .mode) p g (counted t) l (λ i. i) (h s) (counted-valid (speaks (k .mode)) t on)));
           sounds = on;
           playable = (proper, rate-keeps (rateOf (k .device)) P q);
           device = refl;
@@ -148,7 +148,7 @@ module _ (P : ℕ) (image : List ℕ) (small : length image ≤ imageLimit) (k :
     rom-kept : k .mode ≡ Rom → (x : ItemAnswer Item) → readItem (formOf P k) image (k .address .position) ≡ x → Kept P k (fromRom image k x)
     rom-kept m (whole i next) a =
         let w = read-law image (k .address .position) i next a in
-        begun-kept i next (k .fifo) (w .0 .1) (omega (arith, begins-room image (k .address .position) (itemCode (formOf P k) .bits i) (w .1), w .2)) (λ n. r .fifo)
+        begun-kept i next (k .fifo) _ (w .0 .1) (omega (arith, begins-room image (k .address .position) (itemCode (formOf P k) .bits i) (w .1), w .2)) (λ n. r .fifo)
     rom-kept m (cut h) a = out-kept _ (k .fifo) _ (omega (arith, address)) (subst (λ (m : Mode). fifoValid m (k .fifo) ≡ true) m (r .fifo))
 
     fifo-kept : k .mode ≡ External → (x : ItemAnswer Item) → readItem (formOf P k) (heldBytes (k .fifo)) (k .fifo .«used_bits») ≡ x → Kept P k (fromFifo k x)
@@ -156,7 +156,7 @@ module _ (P : ℕ) (image : List ℕ) (small : length image ≤ imageLimit) (k :
         let external = subst (λ (m : Mode). fifoValid m (k .fifo) ≡ true) m (r .fifo) in
         by-test (Kept P k) (isStop (i .1) || ltb next (8 * k .fifo .level))
         (λ t.
-        begun-kept i (k .address .position) (usedUp (k .fifo) next) (read-law (heldBytes (k .fifo)) (k .fifo .«used_bits») i next a .0 .1) (address .0)
+        begun-kept i (k .address .position) (usedUp (k .fifo) next) _ (read-law (heldBytes (k .fifo)) (k .fifo .«used_bits») i next a .0 .1) (address .0)
         (λ n. rw m (used-up-valid (k .fifo) next external (ltb-true _ _ (rw n at t)))))
         (λ t. out-kept (k .address .position) (emptied (k .fifo)) _ (address .0) refl)
     fifo-kept m (cut h) a = out-kept (k .address .position) (emptied (k .fifo)) _ (address .0) refl

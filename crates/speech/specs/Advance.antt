@@ -7,12 +7,13 @@ use lib.Dec.{ltb}
 use lib.ListN.{length}
 use Rattle.rom.specs.Frames.{isStop}
 use Rattle.rom.specs.Items.{ItemAnswer, whole, cut}
+use Rattle.rom.specs.declared.frames.Frame.{Frame}
 use Rattle.address.specs.Addresses.{movedTo}
 use Rattle.clock.specs.Counters.{stopped, begun, counted, intervalBegins, frameBegins}
 use Rattle.fifo.specs.Buffer.{emptied, usedUp, bufferLow, bufferEmpty, heldBytes}
 use Rattle.rates.specs.Rates.{skippedWith}
 use Rattle.rates.specs.Form.{Form, rateForm, Item, readItem}
-use Rattle.reports.specs.Reports.{frameReport, noDetails, rated, outOfRom, outOfFifo}
+use Rattle.reports.specs.Reports.{frameReport, noDetails, ofFrame, rated, outOfRom, outOfFifo}
 use Rattle.control.specs.Device.{rateOf}
 use Rattle.control.specs.State.{withMode, withAddress, withFifo, withPort, withClock, lessBusy}
 use Rattle.control.specs.Validity.{speaks}
@@ -31,15 +32,15 @@ changed k m p f t =
     withClock t (withPort (raisedPort (raises k m f) (k .port)) (withFifo f (withAddress (movedTo p (k .address)) (withMode m k))))
 
 -- a frame is taken, and the position and the FIFO have moved on; it begins after the intervals that its rate skips. Stop also makes
--- the mode idle and discards held FIFO bytes
-abbrev pub frameBegun : Control → Item → ℕ → Fifo → Moved
-frameBegun k (q, f) p held =
+-- the mode idle and discards held FIFO bytes. d is what the step gives besides
+abbrev pub frameBegun : Control → Item → ℕ → Fifo → Details → Moved
+frameBegun k (q, f) p held d =
     let first = skippedWith (rateOf (k .device)) q in
     record {
       control = changed k (cond (isStop f) Idle (k .mode)) p (cond (isStop f) (emptied held) held) (counted (begun first (k .clock)));
       action = Begin f first;
       report = frameReport f;
-      details = rated q;
+      details = d;
     }
 
 -- running out: idle, sound at rest at once
@@ -48,7 +49,7 @@ ranOut k p held d = record { control = changed k Idle p held (stopped (k .clock)
 
 -- from ROM: if it ends inside a frame or before its first bit, the position goes to the image's end, or stays if past it
 abbrev pub fromRom : List ℕ → Control → ItemAnswer Item → Moved
-fromRom image k (whole i next) = frameBegun k i next (k .fifo)
+fromRom image k (whole i next) = frameBegun k i next (k .fifo) (rated (i .0))
 fromRom image k (cut h) = ranOut k (max (k .address .position) (8 * length image)) (k .fifo) (outOfRom h)
 
 -- running out in the FIFO: all bits held are used up
@@ -56,10 +57,15 @@ abbrev pub fifoOut : Control → ℕ → Moved
 fifoOut k missing =
     ranOut k (k .address .position) (emptied (k .fifo)) (outOfFifo (8 * k .fifo .level - k .fifo .«used_bits») missing)
 
+-- a stop from the FIFO throws away the bits that are left behind it (02, §10)
+abbrev pub thrownBy : Control → Frame → ℕ → ℕ
+thrownBy k f next = cond (isStop f) (8 * k .fifo .level - next) 0
+
 -- from the FIFO: if its bits end inside a frame, or exactly with a frame other than a stop, they are used up; the latter lacks no bit
 abbrev pub fromFifo : Control → ItemAnswer Item → Moved
 fromFifo k (whole i next) =
-    cond (isStop (i .1) || ltb next (8 * k .fifo .level)) (frameBegun k i (k .address .position) (usedUp (k .fifo) next)) (fifoOut k 0)
+    cond (isStop (i .1) || ltb next (8 * k .fifo .level))
+    (frameBegun k i (k .address .position) (usedUp (k .fifo) next) (ofFrame (i .0) (thrownBy k (i .1) next))) (fifoOut k 0)
 fromFifo k (cut h) = fifoOut k (h .missing)
 
 -- how the device's frames stand in the bits, at the rate that is set

@@ -1,7 +1,7 @@
 // What a sample step does to the control, what it asks of the sound, and what it reports. The width of the pitch field is a
 // parameter.
 ghost use mathlib.Core.Path.{_≡_};
-ghost use mathlib.Core.Bool.{true};
+ghost use mathlib.Core.Bool.{true, cond};
 ghost use Prim.Native.Nat.{_≤_, _<_};
 ghost use lib.ListN.{length};
 ghost use Rattle.rom.specs.Bits.{imageLimit};
@@ -61,10 +61,17 @@ fn change(control: Control, mode: Mode, position: usize, fifo: Fifo, clock: Cloc
         .with_clock(clock)
 }
 
-// The control after a frame with these rate bits, the position and the FIFO moved on.
-fn begin_frame(control: Control, bits: u8, frame: Frame, position: usize, held: Fifo) -> Moved
+// The control after a frame with these rate bits, the position and the FIFO moved on, and what the step gives besides.
+fn begin_frame(
+    control: Control,
+    bits: u8,
+    frame: Frame,
+    position: usize,
+    held: Fifo,
+    details: Details,
+) -> Moved
     requires { ⌜ control .clock .sample .0 ≤ lastSample ⌝ }
-    ensures { λ r. ⌜ r ≡ frameBegun control (bits, frame) position held ⌝ }
+    ensures { λ r. ⌜ r ≡ frameBegun control (bits, frame) position held details ⌝ }
 {
     let device = control.device;
     let rate = device.rate();
@@ -73,7 +80,6 @@ fn begin_frame(control: Control, bits: u8, frame: Frame, position: usize, held: 
     let clock = old.begin_at(first).count();
     let action = Action::Begin(frame, first);
     let report = report_frame(frame);
-    let details = Details::rated(bits);
     let stop = is_stop(frame);
     if stop {
         let next = change(control, Mode::Idle, position, held.discard(), clock);
@@ -133,7 +139,7 @@ fn from_rom(control: Control, image: &[u8], pitch_bits: usize) -> Moved
             return run_out(control, position, held, details);
         }
     };
-    begin_frame(control, bits, frame, next, held)
+    begin_frame(control, bits, frame, next, held, Details::rated(bits))
 }
 
 // Running out in the FIFO, in a frame that lacks some bits, or none.
@@ -146,6 +152,13 @@ fn fifo_out(control: Control, missing: usize) -> Moved
     let used_up = 8 * held.level as usize - held.used_bits as usize;
     let details = Details::out_of_fifo(used_up, missing);
     run_out(control, position, held.discard(), details)
+}
+
+// The bits that a frame throws away, of those left behind it: a stop all, another frame none.
+fn thrown(stop: bool, left: usize) -> usize
+    ensures { λ r. ⌜ r ≡ cond stop left 0 ⌝ }
+{
+    if stop { left } else { 0 }
 }
 
 // A frame from the FIFO, or its end.
@@ -173,7 +186,8 @@ fn from_fifo(control: Control, pitch_bits: usize) -> Moved
     };
     let stop = is_stop(frame);
     if stop | (next < 8 * level) {
-        begin_frame(control, bits, frame, position, held.use_up(next))
+        let details = Details::of_frame(bits, thrown(stop, 8 * level - next));
+        begin_frame(control, bits, frame, position, held.use_up(next), details)
     } else {
         fifo_out(control, 0)
     }

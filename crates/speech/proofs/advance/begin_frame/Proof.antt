@@ -29,8 +29,8 @@ begun-at n = n .count .ensures ∙ ap counted (n .before .begin-at .ensures)
 pub begin-frame-spec : {M : Type 1} → statement M
 begin-frame-spec =
     tie.close (tie.spec (λ c κs. search needs) (λ c κs. search needs) (λ c κs. search needs) count-requires
-    (λ c κs. search needs) (λ c κs. search needs) (λ c κs. search needs) (λ c κs. search needs) (λ c κs. search needs) (λ c κs. search needs)
-    (λ c. let b = c .before .before .before in let n = b .before .before .before in let q = n .before .before .before in let a = q .before .before .args in
-    stop-begun (a .control) (a .bits) (a .frame) (a .position) (a .held) (skipped q) (begun-at n) (b .before .before .report-frame .ensures) (b .before .rated .ensures) (sym (b .is-stop .ensures) ∙ c .before .before .if1 .taken) (c .change .ensures) (c .before .discard .ensures))
-    (λ c. let b = c .before .before in let n = b .before .before .before in let q = n .before .before .before in let a = q .before .before .args in
-    frame-begun (a .control) (a .bits) (a .frame) (a .position) (a .held) (skipped q) (begun-at n) (b .before .before .report-frame .ensures) (b .before .rated .ensures) (sym (b .is-stop .ensures) ∙ c .before .if1 .left) (c .change2 .ensures)))
+    (λ c κs. search needs) (λ c κs. search needs) (λ c κs. search needs) (λ c κs. search needs) (λ c κs. search needs)
+    (λ c. let b = c .before .before .before in let n = b .before .before in let q = n .before .before .before in let a = q .before .before .args in
+    stop-begun (a .control) (a .bits) (a .frame) (a .position) (a .held) (a .details) (skipped q) (begun-at n) (b .before .report-frame .ensures) (sym (b .is-stop .ensures) ∙ c .before .before .if1 .taken) (c .change .ensures) (c .before .discard .ensures))
+    (λ c. let b = c .before .before in let n = b .before .before in let q = n .before .before .before in let a = q .before .before .args in
+    frame-begun (a .control) (a .bits) (a .frame) (a .position) (a .held) (a .details) (skipped q) (begun-at n) (b .before .report-frame .ensures) (sym (b .is-stop .ensures) ∙ c .before .if1 .left) (c .change2 .ensures)))

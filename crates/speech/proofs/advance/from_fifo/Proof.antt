@@ -44,11 +44,17 @@ lent-held b =
     ap (λ (l : List ℕ). readItem (formOf (start b .args .pitch-bits) k) (take (k .fifo .level) l) (k .fifo .«used_bits»)) (b .read-bytes .ensures)
 
 -- the frame ends with the last bit held or before it
-use-up-requires : tie.Need-use-up-requires
-use-up-requires c κs =
+sub-thrown : tie.Need-sub-thrown
+sub-thrown c =
     let f = c .before .before .before .before .before in
     let b = read (f .before .before .before .before) in
-    (omega (arith, whole-frame _ (lent b) _ _ (f .frame-from .ensures) (c .before .before .before .answer .given .1) .inside, lent-length b), start b .pre .2)
+    omega (arith, whole-frame _ (lent b) _ _ (f .frame-from .ensures) (c .before .before .before .answer .given .1) .inside, lent-length b)
+
+use-up-requires : tie.Need-use-up-requires
+use-up-requires c κs =
+    let f = c .before .before .before .before .before .before .before in
+    let b = read (f .before .before .before .before) in
+    (omega (arith, whole-frame _ (lent b) _ _ (f .frame-from .ensures) (c .before .before .before .before .before .answer .given .1) .inside, lent-length b), start b .pre .2)
 
 pub from-fifo-spec : {M : Type 1} → statement M
 from-fifo-spec =
@@ -68,16 +74,17 @@ from-fifo-spec =
     fifo-cut _ k
     (item-cut _ k _ _ (p .before .rate .ensures) (p .prefix-bits .ensures) (f .before .before .field-at .ensures) (f .frame-from .ensures) (c .before .before .enum-told .given .1) ∙ lent-held (read p))
     (rw (c .before .shortfall .ensures) at (c .fifo-out .ensures)))
-    (λ c κs. search needs) (λ c. search needs)
+    (λ c κs. search needs) (λ c. search needs) (λ c. search needs) sub-thrown (λ c κs. search needs) (λ c κs. search needs)
     use-up-requires
-    (λ c κs. search needs) (λ c κs. search needs)
+    (λ c κs. start (read (c .before .before .before .before .before .before .before .before .before .before .before .before)) .pre .4) (λ c κs. search needs)
     (λ c.
-    let f = c .before .before .before .before .before .before .before in
+    let f = c .before .before .before .before .before .before .before .before .before in
     let p = f .before .before .before .before in
     let k = start (read p) .args .control in
     fifo-whole _ k
-    (item-whole _ k _ _ (p .before .rate .ensures) (p .prefix-bits .ensures) (f .before .before .field-at .ensures) (f .frame-from .ensures) (c .before .before .before .before .before .answer .given .1) ∙ lent-held (read p))
-    (rw (c .before .before .before .is-stop .ensures) at (c .before .before .if1 .taken)) (rw (c .before .use-up .ensures) at (c .begin-frame .ensures)))
+    (item-whole _ k _ _ (p .before .rate .ensures) (p .prefix-bits .ensures) (f .before .before .field-at .ensures) (f .frame-from .ensures) (c .before .before .before .before .before .before .before .answer .given .1) ∙ lent-held (read p))
+    (rw (c .before .before .before .before .before .is-stop .ensures) at (c .before .before .before .before .if1 .taken))
+    (rw (c .before .use-up .ensures, c .before .before .of-frame .ensures, c .before .before .before .thrown .ensures, c .before .before .before .before .before .is-stop .ensures) at (c .begin-frame .ensures)))
     (λ c.
     let f = c .before .before .before .before .before .before in
     let p = f .before .before .before .before in

@@ -39,9 +39,9 @@ from-rom-spec =
     (λ c. rom-cut _ _ _ (read-cut (c .before .before)) (told (c .before .before)) (omega (arith, c .before .if1 .taken)) (c .run-out .ensures))
     (λ c κs. search needs)
     (λ c. rom-cut _ _ _ (read-cut (c .before .before)) (told (c .before .before)) (omega (arith, c .before .if1 .left)) (c .run-out2 .ensures))
-    (λ c κs. search needs)
+    (λ c κs. search needs) (λ c κs. search needs)
     (λ c.
-    let f = c .before .before .before .before in
+    let f = c .before .before .before .before .before in
     let p = f .before .before in
-    rom-whole _ _ _ (item-whole _ (p .before .before .before .before .args .control) _ _ (p .before .rate .ensures) (p .prefix-bits .ensures) (f .before .field-at .ensures) (f .frame-from .ensures) (c .before .before .answer .given .1))
-    (c .begin-frame .ensures)))
+    rom-whole _ _ _ (item-whole _ (p .before .before .before .before .args .control) _ _ (p .before .rate .ensures) (p .prefix-bits .ensures) (f .before .field-at .ensures) (f .frame-from .ensures) (c .before .before .before .answer .given .1))
+    (rw (c .before .rated .ensures) at (c .begin-frame .ensures))))
