@@ -180,6 +180,17 @@ pub fn read_line(out: &mut [u8], at: usize, letter: u8, refusal: u8, byte: u8) -
     put(out, p, b'\n')
 }
 
+// What a step gives besides its report.
+fn besides(out: &mut [u8], at: usize, details: Details) -> usize
+    ensures { λ r. ⌜ r ≤ length (now (out .entry)) ⌝ }
+{
+    let p = small(out, at, details.rate);
+    let p = natural(out, p, details.begun as u64);
+    let p = natural(out, p, details.used_up as u64);
+    let p = natural(out, p, details.missing as u64);
+    natural(out, p, details.thrown as u64)
+}
+
 // `T`: a sample step, with the number of its report, the frame that it reports and what it gives besides.
 pub fn step_line(
     out: &mut [u8],
@@ -196,10 +207,7 @@ pub fn step_line(
     let p = sample(out, p, value);
     let p = small(out, p, report);
     let p = frame(out, p, found);
-    let p = small(out, p, details.rate);
-    let p = natural(out, p, details.begun as u64);
-    let p = natural(out, p, details.used_up as u64);
-    let p = natural(out, p, details.missing as u64);
+    let p = besides(out, p, details);
     put(out, p, b'\n')
 }
 
