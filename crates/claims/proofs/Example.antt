@@ -18,7 +18,8 @@ use Rattle.voice.specs.Layout.{twosComplement}
 use Rattle.voice.specs.Check.{entriesValid, voiceFault}
 use Rattle.fifo.specs.declared.BitOrder.the-variants.{LeastFirst}
 use Rattle.claims.specs.Demand3.{answersDue, WritesRefused}
-use Rattle.claims.specs.Example.{voice, loads, speak, Example, phrase, noPhrase, Holds}
+use Rattle.voice.specs.Example.{voice}
+use Rattle.claims.specs.Example.{loads, speak, Example, phrase, noPhrase, Holds}
 use Rattle.claims.proofs.Demand3.{demand-3}
 
 -- an example holds where its frames, its refusals and its answers compute

@@ -20,7 +20,8 @@ use Rattle.fifo.specs.declared.BitOrder.the-variants.{LeastFirst}
 use Rattle.claims.specs.Device.{ratedForm}
 use Rattle.claims.specs.Answers.{answersDue, WritesRefused}
 use Rattle.claims.specs.Opening.{RateBytes}
-use Rattle.claims.specs.Example.{voice, loads, speak}
+use Rattle.voice.specs.Example.{voice}
+use Rattle.claims.specs.Example.{loads, speak}
 use Rattle.claims.specs.ExampleRated.{RatedExample, variable, fixed, exampleRate, RatedHolds}
 use Rattle.claims.proofs.Demand3Rated.{demand-3-rated}
 

@@ -12,13 +12,10 @@ use Rattle.reports.specs.declared.Report.{Report}
 use Rattle.reports.specs.declared.Report.the-variants.{Nothing as NoReport, Frame as FrameReport, Stop as StopReport, RanOut}
 use Rattle.schedule.specs.Types.{tells}
 use Rattle.schedule.specs.Calls.{Call, step, run, read, write, Answer}
+use Rattle.voice.specs.Example.{voice}
 use Rattle.claims.specs.Answers.{answersOf}
 use Rattle.fifo.specs.declared.BitOrder.the-variants.{LeastFirst}
 use Rattle.claims.specs.Demand3.{Loads, SpeakByte, speaking, answersDue, WritesRefused}
-
--- a valid voice file: length 497, version 1; 15 energies and the first pitch 0, 63 pitches of 257, K values 0; one pulse, of 64
-unfoldable pub voice : List ℕ
-voice = (0x01 ∷ 0xF1 ∷ 1 ∷ []) ++ replicate 32 0 ++ replicate 126 1 ++ replicate 336 0 ++ (1 ∷ 64 ∷ [])
 
 -- loads of address 0, among them some with the top bit, and of the fifth only the two low bits; and Speak
 abbrev pub loads : Loads 0

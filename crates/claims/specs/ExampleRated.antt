@@ -16,7 +16,8 @@ use Rattle.claims.specs.Device.{ratedForm}
 use Rattle.claims.specs.Answers.{answersOf, answersDue, WritesRefused}
 use Rattle.fifo.specs.declared.BitOrder.the-variants.{LeastFirst}
 use Rattle.claims.specs.Demand3Rated.{rateAfter, speakingRated}
-use Rattle.claims.specs.Example.{voice, loads, speak}
+use Rattle.voice.specs.Example.{voice}
+use Rattle.claims.specs.Example.{loads, speak}
 
 -- an image, Load Frame Rate bytes before and after the loads, the items there, calls and their answers
 pub record RatedExample : Type 0 where

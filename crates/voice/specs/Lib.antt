@@ -1,3 +1,4 @@
 pub mod Layout
 pub mod Check
 pub mod Valid
+pub mod Example
