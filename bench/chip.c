@@ -285,7 +285,9 @@ static bool take_frame(struct chip *c, struct bytes image, struct step *answer)
             empty(c);
             return false;
         }
-        if (f->kind != STOP)
+        if (f->kind == STOP)
+            answer->thrown = 8 * c->level - next;
+        else
             use_up(c, next);
     }
     if (f->kind == STOP) {
@@ -318,6 +320,7 @@ static void take_step(struct chip *c, struct bytes image, struct bytes voice, st
     answer->sample = 0;
     answer->report = NOTHING;
     answer->used_up = 0;
+    answer->thrown = 0;
     answer->cut = (struct shortfall){0};
     if (c->busy)
         c->busy--;

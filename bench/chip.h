@@ -98,6 +98,8 @@ struct step {
     /* ran out: the bits of the FIFO that are used up, and how short the bits are; no place in the FIFO */
     size_t used_up;
     struct shortfall cut;
+    /* a stop from the FIFO: the bits that it throws away */
+    size_t thrown;
 };
 
 void power_up(struct chip *c, enum order order);
