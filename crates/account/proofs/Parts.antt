@@ -1,18 +1,15 @@
 -- Entries in order take the bits apart.
 -- Assumes nothing.
 use mathlib.Core.Path.{_≡_, refl, sym, ap, _∙_}
-use mathlib.Core.Bool.{Bool, true, false, cond, _&&_}
 use mathlib.Core.List.{List, [], _∷_, _++_, append-assoc, append-nil}
 use Prim.Native.Nat.{ℕ}
-use borrow.Author.Tests.{ne-eqb}
-use lib.Dec.{eqb}
 use Rattle.account.specs.Types.{Stop, Details, Report}
 use Rattle.account.specs.Entries.{Entry, stepped, Reading, next, byteBits, frameBits}
 use Rattle.account.specs.Order as order
 use Rattle.account.specs.Order.{FifoMove, Goes, InOrder}
 use Rattle.account.specs.Parts.{bitsIn, bitsTaken, Part, given, thrown, bitsOfParts, Leaves, writing, looking, nothing, frame, stop, out, from-rom, done, then}
 use Rattle.account.specs.Theorems.{Apart, BitsApart}
-use Rattle.account.proofs.Theorems.{bits-in-order}
+use Rattle.account.proofs.Theorems.{bits-in-order, not-taken}
 
 -- the parts that leave with one entry
 record Apart-one (t : Reading) (q : List ℕ) (e : Entry) (left : List ℕ) : Type 0 where
@@ -39,14 +36,10 @@ step-apart {t} n (order.stop {d = d} lost on e z) =
 step-apart n (order.out {queue = q} on s z) = record { parts = given q ∷ []; told = out q on (sym s); whole = simp append-nil }
 step-apart n (order.from-rom off z) = same (from-rom off) refl
 
-not-in : (s : Bool) (n : ℕ) (l : List ℕ) → (n ≡ 0 → ⊥) → cond (s && eqb n 0) l [] ≡ []
-not-in true n l h = rw (ne-eqb n 0 h)
-not-in false n l h = refl
-
 entry-apart : {t : Reading} {q left : List ℕ} {e : Entry} → Goes t q e left → Apart-one t q e left
 entry-apart (order.buffered {queue = q} {b = b} on) = record { parts = []; told = writing; whole = rw on }
 entry-apart (order.commanded off) = same writing (rw off)
-entry-apart (order.not-written {t} {b = b} {n = n} h) = same writing (not-in (t .external) n (byteBits t b) h)
+entry-apart (order.not-written {t} {b = b} {n = n} h) = same writing (not-taken (t .external) n (byteBits t b) [] h)
 entry-apart (order.moved m) = step-apart 0 m
 entry-apart (order.not-stepped h) = same nothing refl
 entry-apart order.unmoved = same looking refl

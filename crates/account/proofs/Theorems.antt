@@ -44,9 +44,10 @@ step-balance {t} (stop {d = d} lost on e z) = rw on (omega (arith, ap length e �
 step-balance (out on s z) = rw on (omega arith)
 step-balance (from-rom off z) = rw off (omega arith)
 
-not-taken : (t : Bool) (n : ℕ) → (n ≡ 0 → ⊥) → _≡_ {A = ℕ} (cond (t && eqb n 0) 1 0) 0
-not-taken true n h = rw (ne-eqb n 0 h)
-not-taken false n h = refl
+-- a refused byte does not count as a taken one
+pub not-taken : {A : Type 0} (t : Bool) (n : ℕ) (x y : A) → (n ≡ 0 → ⊥) → cond (t && eqb n 0) x y ≡ y
+not-taken true n x y h = rw (ne-eqb n 0 h)
+not-taken false n x y h = refl
 
 byte-length : (t : Reading) (b : ℕ) → length (byteBits t b) ≡ 8
 byte-length t b = length-byte (t .order) b
@@ -54,7 +55,7 @@ byte-length t b = length-byte (t .order) b
 entry-balance : {t : Reading} {q left : List ℕ} {e : Entry} → Goes t q e left → 8 * takenBy t e + length q ≡ givenBy t e + thrownBy e + length left
 entry-balance (buffered {t} {queue} {b} on) = rw on (omega (arith, length-append queue (byteBits t b), byte-length t b))
 entry-balance (commanded off) = rw off (omega arith)
-entry-balance (not-written {t} {n = n} h) = omega (arith, not-taken (t .external) n h)
+entry-balance (not-written {t} {n = n} h) = omega (arith, not-taken {A = ℕ} (t .external) n 1 0 h)
 entry-balance (moved m) = omega (arith, step-balance m)
 entry-balance (not-stepped {t} h) = omega (arith, none (t .external))
 entry-balance unmoved = omega arith
