@@ -17,7 +17,7 @@ use trace_script::Record;
 use trace_script::record_at;
 
 // The buffer for answers has 65,536 bytes and is written out where more than this is used. The answers to one record take less
-// than 59,000 bytes, so that none is cut: at most 8,192 samples of 7 bytes, 67 numbers of 21 bytes, and some 20 bytes more.
+// than 59,000 bytes, so that none is cut: at most 8,192 samples of 7 bytes, 69 numbers of 21 bytes, and some 20 bytes more.
 const WAITING: usize = 6000;
 
 // Writes the buffer out where it is time. It returns how much of it is still used: all, where writing failed.
