@@ -12,8 +12,9 @@ use borrow.Author.Tests.{ltb-true}
 use Rattle.base.specs.Range.{Between, clamped}
 use Rattle.base.proofs.Range.{not-less, is-not-less, ordered}
 use Rattle.base.proofs.Signed.{not-negative}
-use Rattle.trace_state.specs.Types.{Mode, Idle, Rom, Waiting, External}
-use Rattle.trace_state.specs.Numbers.{wide, flag, modeNumber, natural, short, flagOf, modeOf}
+use Rattle.chip_numbers.specs.Types.{Mode, Idle, Rom, Waiting, External}
+use Rattle.chip_numbers.specs.Numbers.{flag, modeNumber}
+use Rattle.trace_state.specs.Numbers.{wide, natural, short, flagOf, modeOf}
 
 -- ---- natural numbers, held to 0..most
 

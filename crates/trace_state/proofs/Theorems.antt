@@ -5,26 +5,24 @@ use mathlib.Core.Bool.{cond}
 use mathlib.Core.List.{List, _++_, map}
 use Prim.Native.Nat.{ℕ, _+_, _≤_}
 use native.Mathlib.Omega.{arith}
-use lib.IntN.{ℤ, pos}
+use lib.IntN.{ℤ}
 use lib.ListN.{take, drop, length-map}
-use lib.Seq.{take-at, drop-drop, getD-drop}
+use lib.Seq.{take-at, drop-drop}
 use Rattle.control.specs.Device.{rateOf}
-use Rattle.trace_state.specs.Types.{BitOrder, LeastFirst, MostFirst, Clock, Device, Tms5220, Tms5220C, Params, Chip}
-use Rattle.trace_state.specs.Numbers.{wide, natural, kindNumber, orderNumber, flagOf, orderOf}
-use Rattle.trace_state.specs.Fields.{laterNumbers, paramNumbers, stateNumbers, nth, addressOf, fifoOf, portOf, clockOf, deviceOf, paramsOf, soundOf, chipOf}
+use Rattle.chip_numbers.specs.Types.{BitOrder, LeastFirst, MostFirst, Clock, Device, Tms5220, Tms5220C, Params, Chip}
+use Rattle.chip_numbers.specs.Numbers.{kindNumber, orderNumber}
+use Rattle.chip_numbers.specs.Fields.{laterNumbers, paramNumbers, nth, numbersBy}
+use Rattle.chip_numbers.proofs.Places.{place, bytes-at, clock-at, current-at, target-at, memory-at, later-at, state-length}
+use Rattle.trace_state.specs.Numbers.{wide, natural, flagOf, orderOf}
+use Rattle.trace_state.specs.Fields.{stateNumbers, addressOf, fifoOf, portOf, clockOf, deviceOf, paramsOf, soundOf, chipOf}
 use Rattle.trace_state.specs.Laws.{StateLength, ParamsInFormat, InFormat, ComesBack}
 use Rattle.trace_state.proofs.Signed.{natural-back, naturals-back, shorts-back, level-back, flag-back, mode-back}
-use Rattle.trace_state.proofs.Places.{bytes-at, clock-at, current-at, target-at, memory-at, later-at, state-length}
-
--- number i, which is number j of what stands in a list from number m on
-number : (s xs : List ℤ) (m j i : ℕ) → i ≡ m + j → drop m s ≡ xs → nth s i ≡ nth xs j
-number s xs m j i h e = ap (nth s) h ∙ sym (getD-drop m s j (pos 0)) ∙ ap (λ l. nth l j) e
 
 params-back : (s ys : List ℤ) (m : ℕ) (v : Params) → drop m s ≡ paramNumbers v ++ ys → ParamsInFormat v → paramsOf s m ≡ v
 params-back s ys m v e f =
     rw (
-      number s (paramNumbers v ++ ys) m 0 m (omega arith) e,
-      number s (paramNumbers v ++ ys) m 1 (m + 1) refl e,
+      place s (paramNumbers v ++ ys) m 0 m (omega arith) e,
+      place s (paramNumbers v ++ ys) m 1 (m + 1) refl e,
       sym (drop-drop 2 m s) ∙ ap (drop 2) e,
       take-at (v .k) ys 10 (f .k .ten),
       level-back (f .energy),
@@ -50,11 +48,11 @@ module _ (c : Chip) (f : InFormat c) where
 
   clock-back : clockOf s ≡ k
   clock-back =
-      let e = clock-at c (f .sixteen) in
+      let e = clock-at wide c (f .sixteen) in
       rw (
-        number s _ 24 0 24 refl e,
-        number s _ 24 1 25 refl e,
-        number s _ 24 2 26 refl e,
+        place s _ 24 0 24 refl e,
+        place s _ 24 1 25 refl e,
+        place s _ 24 2 26 refl e,
         flag-back (k .sounding),
         natural-back 255 (k .sample .0) (f .sample) (omega arith),
         natural-back 255 (k .interval .0) (f .interval) (omega arith),
@@ -62,21 +60,21 @@ module _ (c : Chip) (f : InFormat c) where
 
   -- what stands from number 64 on
   later : drop 63 s ≡ map wide (laterNumbers c)
-  later = later-at c (f .sixteen) (f .current .k .ten) (f .target .k .ten) (f .memory .ten)
+  later = later-at wide c (f .sixteen) (f .current .k .ten) (f .target .k .ten) (f .memory .ten)
 
   sound-back : soundOf s ≡ c .sound
   sound-back =
-      let e = clock-at c (f .sixteen) in
+      let e = clock-at wide c (f .sixteen) in
       let l = f .current .k .ten in
       rw (
-        params-back s _ 29 (c .sound .current) (current-at c (f .sixteen)) (f .current),
-        params-back s _ 41 (c .sound .target) (target-at c (f .sixteen) l) (f .target),
-        memory-at c (f .sixteen) l (f .target .k .ten),
+        params-back s _ 29 (c .sound .current) (current-at wide c (f .sixteen)) (f .current),
+        params-back s _ 41 (c .sound .target) (target-at wide c (f .sixteen) l) (f .target),
+        memory-at wide c (f .sixteen) l (f .target .k .ten),
         take-at (c .sound .memory) _ 10 (f .memory .ten),
         shorts-back (c .sound .memory) (f .memory .shorts),
-        number s _ 24 3 27 refl e,
-        number s _ 24 4 28 refl e,
-        number s _ 63 3 66 refl later,
+        place s _ 24 3 27 refl e,
+        place s _ 24 4 28 refl e,
+        place s _ 63 3 66 refl later,
         flag-back (c .sound .hold),
         natural-back 32767 (c .sound .noise) (f .noise) (omega arith),
         natural-back 32767 (c .sound .pulse) (f .pulse) (omega arith),
@@ -84,30 +82,30 @@ module _ (c : Chip) (f : InFormat c) where
 
   bytes-back : map (natural 255) (take 16 (drop 8 s)) ≡ c .control .fifo .bytes
   bytes-back =
-      ap (λ l. map (natural 255) (take 16 l)) (bytes-at c)
+      ap (λ l. map (natural 255) (take 16 l)) (bytes-at wide c)
       ∙ ap (map (natural 255)) (take-at (map wide (c .control .fifo .bytes)) _ 16 (length-map (c .control .fifo .bytes) wide ∙ f .sixteen))
       ∙ naturals-back 255 (c .control .fifo .bytes) (f .bytes) (omega arith)
 
   order-is : orderOf (nth s 67) ≡ c .control .fifo .order
-  order-is = rw (number s _ 63 4 67 refl later) (order-back (c .control .fifo .order))
+  order-is = rw (place s _ 63 4 67 refl later) (order-back (c .control .fifo .order))
 
   fifo-back : fifoOf s ≡ c .control .fifo
-  unfolding stateNumbers
+  unfolding numbersBy
   fifo-back =
       let g = c .control .fifo in
       rw (bytes-back, natural-back 255 (g .level) (f .level) (omega arith), natural-back 255 (g .«used_bits») (f .«used_bits») (omega arith), order-is)
 
   address-back : addressOf s ≡ c .control .address
-  unfolding stateNumbers
+  unfolding numbersBy
   address-back =
       let p = c .control .address in
       rw (natural-back 4294967295 (p .position) (omega (arith, f .position)) (omega arith), natural-back 255 (p .«next_nibble») (f .«next_nibble») (omega arith))
 
   busy-is : natural 255 (nth s 68) ≡ c .control .port .busy .0
-  busy-is = rw (number s _ 63 5 68 refl later) (natural-back 255 (c .control .port .busy .0) (f .busy) (omega arith))
+  busy-is = rw (place s _ 63 5 68 refl later) (natural-back 255 (c .control .port .busy .0) (f .busy) (omega arith))
 
   port-back : portOf s ≡ c .control .port
-  unfolding stateNumbers
+  unfolding numbersBy
   port-back =
       let p = c .control .port in
       rw (flag-back (p .pending), natural-back 255 (p .«data») (f .«data») (omega arith), flag-back (p .interrupt), busy-is)
@@ -115,12 +113,12 @@ module _ (c : Chip) (f : InFormat c) where
   device-back : deviceOf s ≡ c .control .device
   device-back =
       let e = later in
-      rw (number s _ 63 0 63 refl e, number s _ 63 1 64 refl e, number s _ 63 2 65 refl e) (kind-back (c .control .device) (f .v) (f .rr))
+      rw (place s _ 63 0 63 refl e, place s _ 63 1 64 refl e, place s _ 63 2 65 refl e) (kind-back (c .control .device) (f .v) (f .rr))
 
 pub state-length-is : StateLength
-state-length-is c f = state-length c (f .sixteen) (f .current .k .ten) (f .target .k .ten) (f .memory .ten)
+state-length-is c f = state-length wide c (f .sixteen) (f .current .k .ten) (f .target .k .ten) (f .memory .ten)
 
 pub comes-back : ComesBack
-unfolding chipOf stateNumbers
+unfolding chipOf numbersBy
 comes-back c f =
     rw (mode-back (c .control .mode), address-back c f, fifo-back c f, port-back c f, clock-back c f, device-back c f, sound-back c f)

@@ -7,7 +7,7 @@ use lib.ListN.{length, getD}
 use Rattle.base.specs.Range.{Between}
 use Rattle.control.specs.Device.{rateOf}
 use Rattle.trace_script.specs.Script.{stateLength}
-use Rattle.trace_state.specs.Types.{Params, Chip}
+use Rattle.chip_numbers.specs.Types.{Params, Chip}
 use Rattle.trace_state.specs.Fields.{stateNumbers, chipOf}
 
 -- ten numbers of 16 bits

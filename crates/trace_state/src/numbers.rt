@@ -1,10 +1,7 @@
 // The numbers of a list: what a field's value becomes as an i64, and what an i64 becomes as a field's value.
 ghost use mathlib.Core.Path.{_≡_};
 ghost use Prim.Native.Nat.{_≤_};
-ghost use Rattle.trace_state.specs.Numbers.{wide, flag, modeNumber, kindNumber, orderNumber, natural, short};
-use control::device::Device;
-use control::state::Mode;
-use fifo::BitOrder;
+ghost use Rattle.trace_state.specs.Numbers.{wide, natural, short};
 use trace_script::STATE_LENGTH;
 
 // The numbers of a chip.
@@ -21,41 +18,6 @@ pub(crate) fn long(z: i32) -> i64
     ensures { λ r. ⌜ r ≡ z ⌝ }
 {
     z as i64
-}
-
-pub(crate) fn flag(on: bool) -> u64
-    ensures { λ r. ⌜ r ≡ flag on ⌝ }
-{
-    if on { 1 } else { 0 }
-}
-
-pub(crate) fn mode_number(mode: Mode) -> u64
-    ensures { λ r. ⌜ r ≡ modeNumber mode ⌝ }
-{
-    match mode {
-        Mode::Idle => 0,
-        Mode::Rom => 1,
-        Mode::Waiting => 2,
-        Mode::External => 3,
-    }
-}
-
-pub(crate) fn kind_number(device: Device) -> u64
-    ensures { λ r. ⌜ r ≡ kindNumber device ⌝ }
-{
-    match device {
-        Device::Tms5220 => 0,
-        Device::Tms5220C(_) => 1,
-    }
-}
-
-pub(crate) fn order_number(order: BitOrder) -> u64
-    ensures { λ r. ⌜ r ≡ orderNumber order ⌝ }
-{
-    match order {
-        BitOrder::LeastFirst => 0,
-        BitOrder::MostFirst => 1,
-    }
 }
 
 // z where it is in 0..most, else the end that it lies beyond.

@@ -4,73 +4,17 @@ ghost use Prim.Native.Nat.{_<_};
 ghost use lib.IntN.{pos};
 ghost use lib.ListN.{getD};
 ghost use Rattle.trace_script.specs.Script.{stateLength};
-ghost use Rattle.trace_state.specs.Fields.{controlNumbers, clockNumbers, laterNumbers, paramNumbers, stateNumbers};
+ghost use Rattle.chip_numbers.specs.Fields.{paramNumbers};
+ghost use Rattle.trace_state.specs.Fields.{stateNumbers};
 use crate::numbers::Numbers;
-use crate::numbers::flag;
-use crate::numbers::kind_number;
 use crate::numbers::long;
-use crate::numbers::mode_number;
-use crate::numbers::order_number;
 use crate::numbers::wide;
 use chip::state::Chip;
-use clock::Clock;
-use control::state::Control;
+use chip_numbers::fields::clock_numbers;
+use chip_numbers::fields::control_numbers;
+use chip_numbers::fields::later_numbers;
 use sound::params::Params;
 use trace_script::STATE_LENGTH;
-
-// Mode, address register, port and FIFO, but for the FIFO's bytes.
-fn control_numbers(control: Control) -> [u64; 8]
-    ensures { λ r. ⌜ r ≡ controlNumbers control ⌝ }
-{
-    let mode = control.mode;
-    [
-        mode_number(mode),
-        control.address.position as u64,
-        control.address.next_nibble as u64,
-        flag(control.port.pending),
-        control.port.data as u64,
-        flag(control.port.interrupt),
-        control.fifo.level as u64,
-        control.fifo.used_bits as u64,
-    ]
-}
-
-// The clock, the noise register and the pulse place.
-fn clock_numbers(clock: Clock, noise: u32, pulse: u32) -> [u64; 5]
-    ensures { λ r. ⌜ r ≡ clockNumbers clock noise pulse ⌝ }
-{
-    let sample = clock.sample;
-    let interval = clock.interval;
-    [
-        flag(clock.sounding),
-        sample.count(),
-        interval.count(),
-        noise as u64,
-        pulse as u64,
-    ]
-}
-
-// What document 02 added: the device, the rate that is set on it, whether the frame holds, the order of the FIFO's bits, and the samples
-// for which a branch still keeps the chip busy.
-fn later_numbers(chip: Chip) -> [u64; 6]
-    ensures { λ r. ⌜ r ≡ laterNumbers chip ⌝ }
-{
-    let control = chip.control;
-    let device = control.device;
-    let rate = device.rate();
-    let fifo = control.fifo;
-    let order = fifo.order;
-    let port = control.port;
-    let busy = port.busy;
-    [
-        kind_number(device),
-        rate.v as u64,
-        rate.rr as u64,
-        flag(chip.sound.hold),
-        order_number(order),
-        busy.count(),
-    ]
-}
 
 fn ten_number(ten: [i32; 10], i: usize) -> i64
     requires { ⌜ i < 10 ⌝ }

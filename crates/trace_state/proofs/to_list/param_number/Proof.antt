@@ -3,7 +3,7 @@ use borrow.Author.Needs.{needs}
 use mathlib.Core.Path.{_≡_, ap, _∙_}
 use Prim.Native.Nat.{suc, _-_}
 use Rattle.base.proofs.Range.{back}
-use Rattle.trace_state.specs.Fields.{paramNumbers, nth}
+use Rattle.chip_numbers.specs.Fields.{paramNumbers, nth}
 use Rattle.base.proofs.Signed.{returned}
 use Rattle.trace_state.proofs.to_list.param_number.Statement.{statement}
 use Rattle.trace_state.proofs.to_list.param_number.Tie as tie

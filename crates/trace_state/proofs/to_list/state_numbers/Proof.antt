@@ -6,9 +6,10 @@ use lib.IntN.{pos}
 use lib.ListN.{length}
 use Rattle.trace_script.specs.Script.{stateLength}
 use Rattle.trace_state.specs.Fields.{stateNumbers}
+use Rattle.trace_state.specs.Numbers.{wide}
 use Rattle.base.proofs.Signed.{returned}
 use Rattle.base.proofs.Filling.{Filled, fill-none, fill-more, fill-all}
-use Rattle.trace_state.proofs.Places.{state-length}
+use Rattle.chip_numbers.proofs.Places.{state-length}
 use Rattle.trace_state.proofs.to_list.state_numbers.Statement.{statement}
 use Rattle.trace_state.proofs.to_list.state_numbers.Tie as tie
 
@@ -21,7 +22,7 @@ abbrev μ-loop : tie.MeasureT-loop
 -- `search` enters so many fields and no more: `s .good .0 .1 .1 .1 .0` is what is known of the sound
 all-there : (s : tie.Start Inv-loop μ-loop) → length (stateNumbers (s .args .chip)) ≡ stateLength
 all-there s =
-    state-length (s .args .chip) (search needs) (search (needs, s .good .0 .1 .1 .1 .0)) (search (needs, s .good .0 .1 .1 .1 .0))
+    state-length wide (s .args .chip) (search needs) (search (needs, s .good .0 .1 .1 .1 .0)) (search (needs, s .good .0 .1 .1 .1 .0))
     (search (needs, s .good .0 .1 .1 .1 .0))
 
 pub state-numbers-spec : {M : Type 1} → statement M
