@@ -24,7 +24,8 @@ pub struct Stepped {
 }
 
 impl Chip {
-    pub(crate) fn step_fault(self, image: &[u8], voice: &[u8]) -> u8
+    // The number with which a step is refused.
+    pub fn step_fault(self, image: &[u8], voice: &[u8]) -> u8
         ensures { λ r. ⌜ r ≡ stepFault (now (image .entry)) (now (voice .entry)) self ⌝ }
     {
         let image_ok = image_valid(image);
@@ -43,7 +44,7 @@ impl Chip {
     }
 
     // A step whose checks have passed.
-    pub(crate) fn take_step(self, image: &[u8], voice: &[u8]) -> Stepped
+    pub fn take_step(self, image: &[u8], voice: &[u8]) -> Stepped
         requires { ⌜ stepFault (now image) (now voice) self ≡ 0 ⌝ }
         ensures { λ r. ⌜ r ≡ stepTaken (now (image .entry)) (now (voice .entry)) self ⌝ }
     {
