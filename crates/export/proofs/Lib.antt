@@ -1,4 +1,0 @@
-pub mod Beginnings
-pub mod Bytewise
-pub mod Phrases
-pub mod Turns

@@ -1,4 +1,0 @@
-pub mod Types
-pub mod Giving
-pub mod Speak
-pub mod Feed
