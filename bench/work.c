@@ -1,9 +1,8 @@
-#include <stdlib.h>
 #include "work.h"
 #include "inputs.h"
 
 bool digesting;
-uint64_t digest;
+struct digest digest;
 
 static struct image image;
 static uint8_t voice[562];
@@ -13,16 +12,27 @@ static size_t voice_length;
 enum { PHRASE = 5000000 };
 static int16_t out[PHRASE];
 
+static void fold(uint64_t *into, uint64_t number)
+{
+    *into = (*into ^ number) * 1099511628211u;
+}
+
 static void note(uint64_t number)
 {
     if (digesting)
-        digest = (digest ^ number) * 1099511628211u;
+        fold(&digest.answers, number);
 }
 
 static void note_samples(size_t n)
 {
     for (size_t i = 0; digesting && i < n; i++)
         note((uint16_t)out[i]);
+}
+
+static void note_numbers(const tms_chip *chip)
+{
+    for (int i = 0; digesting && i < TMS_CHIP; i++)
+        fold(&digest.numbers, (uint32_t)chip->n[i]);
 }
 
 /* ---- speech from ROM */
@@ -59,24 +69,61 @@ static void prepare_rate_zero(void)
     prepare_speech(speech_rate_zero);
 }
 
-static void speak_by(speak_call *speak, size_t samples)
+struct host new_host(const struct version *by)
+{
+    return (struct host){.by = by, .image = image.bytes, .image_length = image.length, .voice = voice,
+                         .voice_length = voice_length};
+}
+
+/* speech of so many samples into `out`; the first refusal */
+typedef uint8_t speech_call(struct host *h, size_t samples);
+
+/* As many phrases as the samples take. */
+static void speak_by(speech_call *spoken, const struct version *by, size_t samples)
 {
     while (samples > 0) {
         size_t part = samples < PHRASE ? samples : PHRASE;
-        note(speak(image.bytes, image.length, voice, voice_length, 0, out, part));
+        struct host h = new_host(by);
+        note(spoken(&h, part));
         note_samples(part);
+        note_numbers(&h.chip);
         samples -= part;
     }
 }
 
-static void run(const struct version *v, size_t samples)
+static uint8_t speak_and_run(struct host *h, size_t samples)
 {
-    speak_by(v->speak, samples);
+    uint8_t refusal = speak(h, 0);
+    return refusal ? refusal : play(h, out, samples);
 }
 
-static void step(const struct version *v, size_t samples)
+static void run(const struct version *by, size_t samples)
 {
-    speak_by(v->speak_by_steps, samples);
+    speak_by(speak_and_run, by, samples);
+}
+
+/* ---- the same by many calls, each of which takes the chip over the border and back */
+
+static uint8_t speak_and_run_parts(struct host *h, size_t samples)
+{
+    uint8_t refusal = speak(h, 0);
+    return refusal ? refusal : play_in_parts(h, out, samples);
+}
+
+static uint8_t speak_and_step(struct host *h, size_t samples)
+{
+    uint8_t refusal = speak(h, 0);
+    return refusal ? refusal : play_by_steps(h, out, samples);
+}
+
+static void run_parts(const struct version *by, size_t samples)
+{
+    speak_by(speak_and_run_parts, by, samples);
+}
+
+static void step(const struct version *by, size_t samples)
+{
+    speak_by(speak_and_step, by, samples);
 }
 
 /* ---- a stop and nothing after it: all but the first 200 samples are those of a chip that does not sound */
@@ -90,24 +137,30 @@ static void prepare_stop(void)
 
 /* ---- speech from ROM by a TMS5220C, at the rate of a TMS5220: told once, or before each frame */
 
-static void speak_rated(rated_speak_call *speak, uint8_t v, size_t samples)
+static uint8_t run_at_rate(struct host *h, uint8_t v, size_t samples)
 {
-    while (samples > 0) {
-        size_t part = samples < PHRASE ? samples : PHRASE;
-        note(speak(image.bytes, image.length, voice, voice_length, 0, v, 0, out, part));
-        note_samples(part);
-        samples -= part;
-    }
+    uint8_t refusal = speak_rated(h, 0, v, 0);
+    return refusal ? refusal : play(h, out, samples);
 }
 
-static void run_5220c(const struct version *v, size_t samples)
+static uint8_t rate_told_once(struct host *h, size_t samples)
 {
-    speak_rated(v->speak_5220c, 0, samples);
+    return run_at_rate(h, 0, samples);
 }
 
-static void run_rate_bits(const struct version *v, size_t samples)
+static uint8_t rate_told_before_frames(struct host *h, size_t samples)
 {
-    speak_rated(v->speak_5220c, 1, samples);
+    return run_at_rate(h, 1, samples);
+}
+
+static void run_5220c(const struct version *by, size_t samples)
+{
+    speak_by(rate_told_once, by, samples);
+}
+
+static void run_rate_bits(const struct version *by, size_t samples)
+{
+    speak_by(rate_told_before_frames, by, samples);
 }
 
 /* ---- external speech: the bytes of the image, in either bit order, and an image of one byte for the calls to take */
@@ -123,25 +176,32 @@ static void prepare_least_first(void)
     }
 }
 
-static void feed_by(external_call *speak, size_t samples)
+static uint8_t feed(struct host *h, enum tms_bit_order order, size_t samples)
 {
     static const uint8_t rom[1];
-    while (samples > 0) {
-        size_t part = samples < PHRASE ? samples : PHRASE;
-        note(speak(rom, sizeof rom, voice, voice_length, image.bytes, image.length, out, part));
-        note_samples(part);
-        samples -= part;
-    }
+    h->image = rom;
+    h->image_length = sizeof rom;
+    return speak_external(h, order, image.bytes, image.length, out, samples);
 }
 
-static void external_most_first(const struct version *v, size_t samples)
+static uint8_t feed_most_first(struct host *h, size_t samples)
 {
-    feed_by(v->speak_external_most_first, samples);
+    return feed(h, TMS_MOST_FIRST, samples);
 }
 
-static void external_least_first(const struct version *v, size_t samples)
+static uint8_t feed_least_first(struct host *h, size_t samples)
 {
-    feed_by(v->speak_external, samples);
+    return feed(h, TMS_LEAST_FIRST, samples);
+}
+
+static void external_most_first(const struct version *by, size_t samples)
+{
+    speak_by(feed_most_first, by, samples);
+}
+
+static void external_least_first(const struct version *by, size_t samples)
+{
+    speak_by(feed_least_first, by, samples);
 }
 
 /* ---- the walk */
@@ -156,59 +216,55 @@ static void prepare_any_rate(void)
     make_image(&image, IMAGE_LIMIT, speech_any_rate, 0);
 }
 
-static inline void note_walk(uint8_t refusal, size_t bits, uint32_t frames, uint64_t intervals, uint64_t samples, size_t begun,
-                             size_t missing)
+static void note_walk(uint8_t refusal, const tms_phrase *phrase)
 {
     note(refusal);
-    note(bits);
-    note(frames);
-    note(intervals);
-    note(samples);
-    note(begun);
-    note(missing);
+    note(phrase->bits);
+    note(phrase->frames);
+    note(phrase->intervals);
+    note(phrase->samples);
+    note(phrase->begun);
+    note(phrase->missing);
+    note(phrase->offset);
+    note(phrase->length);
 }
 
-static void walk_from(const struct version *v, size_t address)
+static void walk_from(const struct version *by, size_t address)
 {
-    size_t bits, begun, missing;
-    uint32_t frames;
-    uint64_t intervals, samples;
-    uint8_t refusal = v->walk(image.bytes, image.length, address, &bits, &frames, &intervals, &samples, &begun, &missing);
-    note_walk(refusal, bits, frames, intervals, samples, begun, missing);
+    tms_phrase phrase;
+    uint8_t refusal = by->walk(image.bytes, image.length, address, &phrase);
+    note_walk(refusal, &phrase);
 }
 
-static void walk_rate_bits_from(const struct version *v, size_t address)
+static void walk_rate_bits_from(const struct version *by, size_t address)
 {
-    size_t bits, begun, missing;
-    uint32_t frames;
-    uint64_t intervals, samples;
-    uint8_t refusal = v->walk_5220c(image.bytes, image.length, address, 1, 0, &bits, &frames, &intervals, &samples, &begun,
-                                    &missing);
-    note_walk(refusal, bits, frames, intervals, samples, begun, missing);
+    tms_phrase phrase;
+    uint8_t refusal = by->walk_5220c(image.bytes, image.length, address, 1, 0, &phrase);
+    note_walk(refusal, &phrase);
 }
 
-typedef void from_call(const struct version *v, size_t address);
+typedef void from_call(const struct version *by, size_t address);
 
 /* Walks of so many frames: the whole image as often as it takes, and a part of it, up to a stop that is put there. */
-static void walk_by(from_call *from, const struct version *v, size_t frames)
+static void walk_by(from_call *from, const struct version *by, size_t frames)
 {
     for (; frames >= image.count; frames -= image.count)
-        from(v, 0);
+        from(by, 0);
     if (frames == 0)
         return;
     unsigned old = put_energy(&image, frames - 1, 15);
-    from(v, 0);
+    from(by, 0);
     put_energy(&image, frames - 1, old);
 }
 
-static void walk(const struct version *v, size_t frames)
+static void walk(const struct version *by, size_t frames)
 {
-    walk_by(walk_from, v, frames);
+    walk_by(walk_from, by, frames);
 }
 
-static void walk_rate_bits(const struct version *v, size_t frames)
+static void walk_rate_bits(const struct version *by, size_t frames)
 {
-    walk_by(walk_rate_bits_from, v, frames);
+    walk_by(walk_rate_bits_from, by, frames);
 }
 
 static void prepare_phrases(void)
@@ -216,10 +272,10 @@ static void prepare_phrases(void)
     make_image(&image, 16384, speech, 60);
 }
 
-static void walk_each(const struct version *v, size_t walks)
+static void walk_each(const struct version *by, size_t walks)
 {
     for (size_t i = 0; i < walks; i++)
-        walk_from(v, i % image.length);
+        walk_from(by, i % image.length);
 }
 
 /* ---- the voice file */
@@ -229,10 +285,10 @@ static void prepare_voice(void)
     voice_length = make_voice(voice);
 }
 
-static void check(const struct version *v, size_t checks)
+static void check(const struct version *by, size_t checks)
 {
     for (size_t i = 0; i < checks; i++)
-        note(v->check(voice, voice_length));
+        note(by->voice_check(voice, voice_length));
 }
 
 const struct workload workloads[] = {
@@ -245,7 +301,8 @@ const struct workload workloads[] = {
     {"run, silent", "sample", 10000000, 20000, 120000, prepare_stop, run},
     {"external speech, most first", "sample", 2000000, 20000, 120000, prepare_mixed, external_most_first},
     {"external speech, least first", "sample", 2000000, 20000, 120000, prepare_least_first, external_least_first},
-    {"step by step, mixed", "sample", 200000, 2000, 12000, prepare_mixed, step},
+    {"run of 100, mixed", "sample", 10000000, 20000, 120000, prepare_mixed, run_parts},
+    {"step by step, mixed", "sample", 2000000, 2000, 12000, prepare_mixed, step},
     {"walk, silence", "frame", 5000000, 100000, 500000, prepare_silence, walk},
     {"walk, voiced", "frame", 2000000, 10000, 40000, prepare_voiced, walk},
     {"walk, mixed", "frame", 2000000, 10000, 40000, prepare_mixed, walk},
