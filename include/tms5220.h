@@ -51,8 +51,8 @@
    else may be NULL. What a call writes overlaps nothing else that it is given. No pointer is kept after a call.
 
    NO GLOBAL DATA, allocation, input or output: calls on different chips may run at the same time on different threads, and one may be
-   made in an interrupt. A call takes at most TMS_STACK bytes of stack. Of the C library the archive wants memcpy and memset alone. It is
-   for x86-64 Linux, to be linked into programs and shared libraries alike.
+   made in an interrupt. Calls were measured to stay within TMS_STACK bytes of stack. Of the C library the archive wants memcpy and memset
+   alone. It is for x86-64 Linux, to be linked into programs and shared libraries alike.
 
    WHAT IS PROVED, for every input: each function ends, does nothing undefined given such pointers, answers what the definitions of the
    chip's documents say, and writes that and no more. A chip that is saved and resumed is the same chip. The walk and the chip find the
@@ -83,7 +83,7 @@ enum {
     TMS_FIFO_SIZE = 16,       /* bytes that the FIFO holds */
     TMS_FIFO_LOW = 8,         /* with as many, or fewer, TMS_BUFFER_LOW is set */
     TMS_FIFO_START = 9,       /* bytes with which external speech starts */
-    TMS_STACK = 2560          /* bytes of stack that a call takes at most, with what it calls */
+    TMS_STACK = 2560          /* bytes of stack that are enough for a call, with what it calls; measured, not proved */
 };
 
 enum tms_refusal {
