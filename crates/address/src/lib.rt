@@ -1,11 +1,13 @@
 // The address register of a ROM: the position in bits, and Load Address, Read Byte, Read and Branch on it. It knows no device.
+#![tactic(auto)]
+
 ghost use Rattle.std.specs.Prelude.{◌≡◌, ◌*◌, ◌/◌, ◌+◌, ◌^◌, ◌≤◌, ◌<◌};
 ghost use Rattle.address.specs.Addresses.{position_limit, address_limit, nibbles, power_up_address, with_nibble, loaded, past_byte, branch_address, branched, restarted, moved_to, address_valid};
 
 use base::bytes::byte_at;
 
 // The position in bits, and the nibble of the address that the next load sets.
-#[derive(Drop)]
+#[derive(Clone, Copy)]
 pub struct AddressRegister {
     pub position: usize,
     pub next_nibble: u8,

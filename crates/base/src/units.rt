@@ -4,13 +4,13 @@
 ghost use Rattle.std.specs.Prelude.{◌≡◌, ◌+◌, ◌^◌, ◌≤◌, ◌<◌};
 ghost use Rattle.base.specs.Units.{frames, intervals, samples, intervals_of, samples_of, whole_intervals, within_interval, within_frame, samples_sum, samples_less, intervals_sum};
 
-#[derive(Drop)]
+#[derive(Clone, Copy)]
 pub struct Frames(u32);
 
-#[derive(Drop)]
+#[derive(Clone, Copy)]
 pub struct Intervals(u64);
 
-#[derive(Drop)]
+#[derive(Clone, Copy)]
 pub struct Samples(u64);
 
 impl Frames {

@@ -1,5 +1,7 @@
 // A reader that stays on a lent image and holds its bit position. A function over such a struct is thin, for its proof is written
 // by hand: the work is done by the functions of `rom::bits` and `rom::reader`.
+#![tactic(auto)]
+
 ghost use Rattle.std.specs.Prelude.{◌≡◌, ◌-◌, ◌≤◌, ◌<◌, ◌^◌, length};
 ghost use Rattle.rom.specs.Bits.{field};
 ghost use Rattle.rom.specs.Reader.{head_at, frame_at};
@@ -10,7 +12,7 @@ use rom::head::Head;
 use rom::reader::{FrameAnswer, frame_at};
 
 // The lent image, and the bit that the reader has come to.
-#[derive(Drop)]
+#[derive(Clone, Copy)]
 pub struct Reader<'a> {
     pub image: &'a [u8],
     pub at: usize,

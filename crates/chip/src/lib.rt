@@ -1,4 +1,6 @@
 // The chip of document 01: one value, which each operation takes and hands back.
+#![tactic(auto)]
+
 pub mod read;
 pub mod run;
 pub mod state;

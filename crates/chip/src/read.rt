@@ -6,14 +6,14 @@ use crate::state::Chip;
 use base::refusal::{STATE, TAKEN};
 
 // What an acknowledge returns: the next chip and the refusal number.
-#[derive(Drop)]
+#[derive(Clone, Copy)]
 pub struct Acknowledged {
     pub chip: Chip,
     pub refusal: u8,
 }
 
 // What a look or a read returns besides: the byte that the bus gets.
-#[derive(Drop)]
+#[derive(Clone, Copy)]
 pub struct ByteRead {
     pub chip: Chip,
     pub refusal: u8,

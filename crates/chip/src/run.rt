@@ -16,7 +16,7 @@ use clock::Clock;
 use rom::frames::PITCH_BITS;
 
 // What a run returns: the next chip and the refusal number.
-#[derive(Drop)]
+#[derive(Clone, Copy)]
 pub struct Ran {
     pub chip: Chip,
     pub refusal: u8,

@@ -13,7 +13,7 @@ use speech::advance::advance;
 use voice::checks::voice_check;
 
 // What a step returns: the next chip, the refusal number, the sample, what it reports, and what it gives besides.
-#[derive(Drop)]
+#[derive(Clone, Copy)]
 pub struct Stepped {
     pub chip: Chip,
     pub refusal: u8,
@@ -69,7 +69,7 @@ impl Chip {
     // Operation: a sample step. The second promise is the report in the paper's numbers.
     pub fn step(self, image: &[u8], voice: &[u8]) -> Stepped
         ensures value { result ≡ step_of image.now voice.now self }
-        ensures report_value { report_numbers result.report ≡ report_numbers (step_of image.now voice.now self).report }
+        ensures in_numbers { report_numbers result.report ≡ report_numbers (step_of image.now voice.now self).report }
     {
         let fault = self.step_fault(image, voice);
         if fault != TAKEN {

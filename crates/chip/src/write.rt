@@ -11,7 +11,7 @@ use rom::bits::image_valid;
 use sound::state::Sound;
 
 // What a written byte returns: the next chip and the refusal number.
-#[derive(Drop)]
+#[derive(Clone, Copy)]
 pub struct Written {
     pub chip: Chip,
     pub refusal: u8,

@@ -127,7 +127,7 @@ fn put_later(numbers: &mut Numbers, chip: Chip)
 // The numbers of a chip, from which a valid one comes back as it was.
 pub fn numbers_of(chip: Chip) -> Numbers
     ensures value { result ≡ chip_numbers chip }
-    ensures result_value { valid chip ≡ true → chip_of result ≡ chip }
+    ensures comes_back { valid chip ≡ true → chip_of result ≡ chip }
 {
     let control = chip.control;
     let sound = chip.sound;

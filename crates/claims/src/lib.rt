@@ -1,2 +1,3 @@
 // What is claimed over the definitions of the other crates. There is no code here: specs/ has the statements and proofs/
 // their proofs.
+#![tactic(auto)]

@@ -1,11 +1,13 @@
 // Whether a chip sounds, and its counters: the sample of the interval and the interval of the frame. It knows no device.
+#![tactic(auto)]
+
 ghost use Rattle.std.specs.Prelude.{◌≡◌, ◌≤◌};
 ghost use Rattle.base.specs.Units.{samples_per_interval};
 ghost use Rattle.clock.specs.Counters.{power_up_clock, stopped, started, begun, counted_by, counted, interval_begins, frame_begins, left_of_interval, last_sample, last_interval, clock_valid};
 
 use base::units::{Frames, Intervals, Samples};
 
-#[derive(Drop)]
+#[derive(Clone, Copy)]
 pub struct Clock {
     pub sounding: bool,
     pub sample: Samples,

@@ -7,7 +7,7 @@ ghost use Rattle.control.specs.Commands.{command_of, is_reset, waits, waits_now,
 use crate::state::{Control, Mode};
 use fifo::Fifo;
 
-#[derive(Drop)]
+#[derive(Clone, Copy)]
 pub enum Command {
     // Nothing on the TMS5220.
     LoadFrameRate,

@@ -1,4 +1,6 @@
 // The control of the chip: its value, its ranges, its commands and its status.
+#![tactic(auto)]
+
 pub mod commands;
 pub mod device;
 pub mod state;

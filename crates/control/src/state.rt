@@ -8,7 +8,7 @@ use base::units::Samples;
 use clock::Clock;
 use fifo::{BitOrder, Fifo};
 
-#[derive(Drop)]
+#[derive(Clone, Copy)]
 pub enum Mode {
     Idle,
     // Speaking from ROM.
@@ -21,7 +21,7 @@ pub enum Mode {
 
 // The bus side: the data byte that the next read gets, if one is pending, the interrupt, and the samples for which a branch still keeps
 // the chip busy.
-#[derive(Drop)]
+#[derive(Clone, Copy)]
 pub struct Port {
     pub pending: bool,
     pub data: u8,
@@ -30,7 +30,7 @@ pub struct Port {
 }
 
 // All of the chip but its sound. Nothing in it depends on a voice file or on the sound.
-#[derive(Drop)]
+#[derive(Clone, Copy)]
 pub struct Control {
     pub mode: Mode,
     pub address: AddressRegister,

@@ -1,9 +1,11 @@
 // The FIFO of external speech. It knows no mode: its ranges are bounds that the caller gives.
+#![tactic(auto)]
+
 ghost use Rattle.std.specs.Prelude.{◌≡◌, ◌++◌, map, ◌*◌, ◌≤◌, ◌<◌, drop, replicate};
 ghost use Rattle.fifo.specs.Buffer.{fifo_size, empty_fifo, emptied, appended, used_up, buffer_low, buffer_empty, clear_from, fifo_inside, reversed, read_bytes};
 
 // Which bit of a byte leaves the FIFO first.
-#[derive(Drop)]
+#[derive(Clone, Copy)]
 pub enum BitOrder {
     LeastFirst,
     MostFirst,
@@ -11,7 +13,7 @@ pub enum BitOrder {
 
 // The bytes held as they were written, the oldest first, how many they are, how many bits of the oldest are used, and the order in which
 // bits leave.
-#[derive(Drop)]
+#[derive(Clone, Copy)]
 pub struct Fifo {
     pub bytes: [u8; 16],
     pub level: u8,

@@ -1,7 +1,7 @@
 -- Reading an address, one character after another.
 -- Assumes nothing.
 use mathlib.Core.Path.{◌≡◌, refl, sym}
-use mathlib.Core.Bool.{false, ◌&&◌, and_true, and-false}
+use mathlib.Core.Bool.{false, ◌&&◌, and-true, and-false}
 use mathlib.Core.List.{List, [], ◌∷◌}
 use Prim.Native.Nat.{ℕ, suc, ◌+◌, ◌*◌, ◌-◌, ◌≤◌, ◌<◌}
 use native.Mathlib.Numerals.{add-one}
@@ -35,7 +35,7 @@ address_most n cs =
 pub address_end : (n : ℕ) → n ≤ image_limit → address_after n [] ≡ n
 unfolding address_after number_after all_digits
 address_end n h =
-    rw and_true (by_test (λ m. m ≡ n) (ltb n image_limit) (λ e. refl) (λ e. omega (arith, ltb-false n image_limit e)))
+    rw and-true (by_test (λ m. m ≡ n) (ltb n image_limit) (λ e. refl) (λ e. omega (arith, ltb-false n image_limit e)))
 
 module _ (n c : ℕ) where
   -- one more character, which is no digit

@@ -5,7 +5,7 @@ ghost use Rattle.lister.specs.Asked.{at_start, at_argument};
 use crate::address::address_of;
 use rom::bits::IMAGE_LIMIT;
 
-#[derive(Drop)]
+#[derive(Clone, Copy)]
 pub struct Asked {
     pub address: usize,
     pub most: usize,

@@ -12,7 +12,7 @@ use rom::phrases::{phrase, walk};
 use rom::reader::frame_taken;
 
 // A first line, and the frame lines that follow it: the first bit of the first, and how many.
-#[derive(Drop)]
+#[derive(Clone, Copy)]
 pub struct First {
     pub text: Text,
     pub bit: usize,
@@ -54,7 +54,7 @@ pub fn first_line(image: &[u8], asked: Asked) -> First
 }
 
 // The line of the frame at a bit, and the bit after the frame.
-#[derive(Drop)]
+#[derive(Clone, Copy)]
 pub struct Line {
     pub text: Text,
     pub next: usize,
@@ -85,7 +85,7 @@ fn put(out: &mut [u8], at: usize, t: Text) -> usize
 }
 
 // How much of the buffer is filled, and what is left to list: the frame lines from a bit on, and how many.
-#[derive(Drop)]
+#[derive(Clone, Copy)]
 pub struct Filled {
     pub used: usize,
     pub bit: usize,

@@ -1,5 +1,7 @@
 // Lists a phrase of an image that it reads from standard input: without an argument that at the start of the image, with one
 // that at the byte address which the argument gives. Further arguments are ignored.
+#![tactic(auto)]
+
 ghost use Rattle.std.specs.Prelude.{◌≡◌, ◌≤◌, length};
 ghost use Rattle.rom.specs.Bits.{image_limit};
 

@@ -6,7 +6,7 @@ ghost use Rattle.lister.specs.Text.{contents, decimal, appended};
 // The most bytes of a text.
 pub const TEXT_SIZE: usize = 80;
 
-#[derive(Drop)]
+#[derive(Clone, Copy)]
 pub struct Text {
     pub bytes: [u8; 80],
     pub length: usize,

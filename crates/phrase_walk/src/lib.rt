@@ -1,5 +1,7 @@
 // The phrase walk whole: its numbers together with the part of the image, in a struct that holds the part. Its functions are
 // thin, for their proofs are written by hand: the work is done by `rom::phrases` and `rates::walks`.
+#![tactic(auto)]
+
 ghost use Rattle.std.specs.Prelude.{◌≡◌};
 ghost use Rattle.rom.specs.Frames.{pitch_width};
 ghost use Rattle.rom.specs.Phrases.{walk_of, phrase_of};
@@ -9,7 +11,7 @@ use rates::rate::FrameRate;
 use rom::phrases::{Walked, part_of, walk};
 
 // The part of the image through the byte with the stop's last bit, empty where the walk is refused, and the walk's numbers.
-#[derive(Drop)]
+#[derive(Clone, Copy)]
 pub struct PhraseWalk<'a> {
     pub part: &'a [u8],
     pub walked: Walked,

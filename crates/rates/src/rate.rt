@@ -5,7 +5,7 @@ ghost use Rattle.rates.specs.Rates.{power_up_rate, rate_valid, rate_of_byte, pre
 use base::units::Intervals;
 
 // The frame mode v and the rate rr, as in the byte x0x0xvrr.
-#[derive(Drop)]
+#[derive(Clone, Copy)]
 pub struct FrameRate {
     pub v: u8,
     pub rr: u8,

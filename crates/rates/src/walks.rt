@@ -110,7 +110,7 @@ pub fn phrase(image: &[u8], address: usize, rate: FrameRate) -> &[u8]
 
 // What taking a frame at a bit returns: the refusal number, the rate bits' value, the frame or none, the bits of both, and with 10 how
 // short the image is.
-#[derive(Drop)]
+#[derive(Clone, Copy)]
 pub struct RatedTaken {
     pub refusal: u8,
     pub rate: u8,
@@ -134,7 +134,7 @@ fn no_frame(refusal: u8, short: Shortfall) -> RatedTaken
 // Operation: the frame at a bit of an image, told v; and its 13 numbers are those of the definition's frame.
 pub fn frame_taken(image: &[u8], bit: usize, v: u8) -> RatedTaken
     ensures value { result ≡ rated_taken_of pitch_width v image.now bit }
-    ensures frame_value { numbers_of result.frame ≡ numbers_of (rated_taken_of pitch_width v image.now bit).frame }
+    ensures frame_numbers { numbers_of result.frame ≡ numbers_of (rated_taken_of pitch_width v image.now bit).frame }
 {
     let rate = FrameRate { v, rr: 0 };
     let fault = rate_fault(image, rate, image.len() <= bit / 8);

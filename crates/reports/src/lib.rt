@@ -1,4 +1,6 @@
 // What a sample step reports, and what it asks of the sound.
+#![tactic(auto)]
+
 ghost use Rattle.std.specs.Prelude.{◌≡◌};
 ghost use Rattle.reports.specs.Reports.{report_number, report_frame, frame_report, of_frame, no_details, rated, out_of_rom, out_of_fifo};
 
@@ -7,7 +9,7 @@ use rom::frames::{Frame, MaybeFrame, is_stop};
 use rom::reader::Shortfall;
 
 // What a step reports.
-#[derive(Drop)]
+#[derive(Clone, Copy)]
 pub enum Report {
     Nothing,
     Frame(Frame),
@@ -16,7 +18,7 @@ pub enum Report {
 }
 
 // What a step gives besides its report; zeros where nothing applies. Later changes add their numbers here.
-#[derive(Drop)]
+#[derive(Clone, Copy)]
 pub struct Details {
     // The rate bits of the frame reported, where it has any.
     pub rate: u8,
@@ -81,7 +83,7 @@ impl Details {
 }
 
 // What a step asks of the sound.
-#[derive(Drop)]
+#[derive(Clone, Copy)]
 pub enum Action {
     // Stay as it is, and give no sound.
     Silent,

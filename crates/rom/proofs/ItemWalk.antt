@@ -93,6 +93,7 @@ module _ (C : Code) (s : List ℕ) (read : ℕ → ItemAnswer C.Item) (lawful : 
   phrase_inside {is} p = go is p.ended (phrase_room s (8 * a) p)
     where
       go : (js : List C.Item) → Ended C js → 8 * a + length (bits_all C js) ≤ 8 * length s → a < length s
+      go [] d room = elim d [ ]
       go (j ∷ js) d room = omega (arith, length-append (C.bits j) (bits_all C js), lawful.some j)
 
   module _ (inside : a < length s) where

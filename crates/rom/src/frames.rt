@@ -6,7 +6,7 @@ ghost use Rattle.rom.specs.Frames.{is_stop, numbers_of};
 pub const PITCH_BITS: usize = 6;
 
 // Each kind carries the indexes that its bits hold, and no others.
-#[derive(Drop)]
+#[derive(Clone, Copy)]
 pub enum Frame {
     Silence,
     Stop,
@@ -38,7 +38,7 @@ pub enum Frame {
 }
 
 // A frame, or none.
-#[derive(Drop)]
+#[derive(Clone, Copy)]
 pub enum MaybeFrame {
     Some(Frame),
     None,

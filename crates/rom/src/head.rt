@@ -6,7 +6,7 @@ ghost use Rattle.rom.specs.Reader.{head_at, kind_of, kind_bits};
 use crate::bits::{NARROW, part};
 
 // The fields that give the kind of a frame.
-#[derive(Drop)]
+#[derive(Clone, Copy)]
 pub struct Head {
     pub energy: u8,
     pub repeat: u8,
@@ -26,7 +26,7 @@ pub fn head_of(window: u64, pitch_bits: usize) -> Head
 }
 
 // The kinds of frames.
-#[derive(Drop)]
+#[derive(Clone, Copy)]
 pub(crate) enum Kind {
     Silence,
     Stop,

@@ -1,4 +1,6 @@
 // The ROM side of document 01: the bits of an image, frames, the frame reader and the phrase walk.
+#![tactic(auto)]
+
 pub mod bits;
 pub mod frames;
 pub mod head;

@@ -13,7 +13,7 @@ use base::units::{Frames, Intervals, Samples};
 
 // What a walk returns: the refusal number, and the phrase's bits, frames and duration; with 10, how short the image is. The number of
 // frames is the duration in frames.
-#[derive(Drop)]
+#[derive(Clone, Copy)]
 pub struct Walked {
     pub refusal: u8,
     pub bits: usize,

@@ -11,7 +11,7 @@ use crate::head::{Head, Kind, head_of, kind_bits, kind_of};
 use base::refusal::{NO_PHRASE, TAKEN};
 
 // How short the bits are: where the cut frame begins, with its prefix if it has one, and how many bits it lacks.
-#[derive(Drop)]
+#[derive(Clone, Copy)]
 pub struct Shortfall {
     pub begun: usize,
     pub missing: usize,
@@ -30,7 +30,7 @@ impl Shortfall {
 }
 
 // A frame is taken whole, with the bit after it, or the bits end inside it or before it.
-#[derive(Drop)]
+#[derive(Clone, Copy)]
 pub enum FrameAnswer {
     Whole(Frame, usize),
     Cut(Shortfall),
@@ -160,7 +160,7 @@ pub fn frame_at(s: &[u8], at: usize, pitch_bits: usize) -> FrameAnswer
 }
 
 // What taking a frame at a bit returns: the refusal number, the frame or none, its bits, and with 10 how short the image is.
-#[derive(Drop)]
+#[derive(Clone, Copy)]
 pub struct FrameTaken {
     pub refusal: u8,
     pub frame: MaybeFrame,
@@ -182,7 +182,7 @@ fn no_frame(refusal: u8, short: Shortfall) -> FrameTaken
 // Operation: the frame at a bit of an image; and its 13 numbers are those of the definition's frame.
 pub fn frame_taken(image: &[u8], bit: usize) -> FrameTaken
     ensures value { result ≡ frame_taken_of pitch_width image.now bit }
-    ensures frame_value { numbers_of result.frame ≡ numbers_of (frame_taken_of pitch_width image.now bit).frame }
+    ensures frame_numbers { numbers_of result.frame ≡ numbers_of (frame_taken_of pitch_width image.now bit).frame }
 {
     let fault = image_fault(image, image.len() <= bit / 8);
     if fault != TAKEN {

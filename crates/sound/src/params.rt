@@ -7,7 +7,7 @@ use filter::filter::STAGES;
 use filter::range::{all_inside, is_inside};
 
 // Energy and pitch, and K1 to K10.
-#[derive(Drop)]
+#[derive(Clone, Copy)]
 pub struct Params {
     pub energy: i32,
     pub pitch: i32,

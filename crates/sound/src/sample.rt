@@ -27,7 +27,7 @@ const NOISE_HIGH: i32 = 64;
 const EXCITATION_SHIFT: i32 = 6;
 
 // The sound after a sample, and the sample.
-#[derive(Drop)]
+#[derive(Clone, Copy)]
 pub struct Sampled {
     pub sound: Sound,
     pub value: i16,

@@ -8,7 +8,7 @@ use filter::range::all_inside;
 
 // The currents and the targets, the filter's memory, the noise register and the pulse place, and whether the frame holds its
 // currents.
-#[derive(Drop)]
+#[derive(Clone, Copy)]
 pub struct Sound {
     pub current: Params,
     pub target: Params,

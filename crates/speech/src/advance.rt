@@ -19,7 +19,7 @@ use rom::frames::{Frame, is_stop};
 use rom::reader::{FrameAnswer, frame_from};
 
 // The control after a step, what it asks of the sound, what it reports, and what it gives besides.
-#[derive(Drop)]
+#[derive(Clone, Copy)]
 pub struct Moved {
     pub control: Control,
     pub action: Action,

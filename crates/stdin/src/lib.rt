@@ -1,10 +1,12 @@
 // Standard input, read to its end.
+#![tactic(auto)]
+
 ghost use Rattle.std.specs.Prelude.{◌+◌, ◌≤◌, length};
 
 use libc::STDIN_FILENO;
 
 // What reading gave: how many bytes, or that it failed.
-#[derive(Drop)]
+#[derive(Clone, Copy)]
 pub struct Input {
     pub failed: bool,
     pub count: usize,

@@ -1,4 +1,6 @@
 // Plays a script of calls that it reads from standard input on the library, and prints the answers.
+#![tactic(auto)]
+
 ghost use Rattle.std.specs.Prelude.{◌≡◌, ◌≤◌, length};
 ghost use Rattle.trace_script.specs.Script.{limit};
 

@@ -18,7 +18,7 @@ use trace_state::numbers::Numbers;
 use trace_state::to_list::state_numbers;
 
 // The image and the voice file, as parts of the script: from a byte on up to another.
-#[derive(Drop)]
+#[derive(Clone, Copy)]
 pub struct Parts {
     pub image: usize,
     pub image_end: usize,
@@ -52,7 +52,7 @@ impl Parts {
 }
 
 // What a record leaves: the chip, and how much of the buffer is used.
-#[derive(Drop)]
+#[derive(Clone, Copy)]
 pub struct Played {
     pub chip: Chip,
     pub used: usize,

@@ -1,3 +1,5 @@
 // The lines that answer the records of a trace script (docs/TRACE.md), in a buffer.
+#![tactic(auto)]
+
 pub mod lines;
 mod numbers;

@@ -1,4 +1,6 @@
 // Scripts: their records, and the numbers in these.
+#![tactic(auto)]
+
 ghost use Rattle.std.specs.Prelude.{◌≡◌, ◌+◌, ◌^◌, ◌≤◌, ◌<◌, min, length};
 ghost use Rattle.trace_script.specs.Script.{limit, run_limit, le32, signed, le_i64, part_of, body_of, record_at};
 
@@ -67,7 +69,7 @@ pub fn part(script: &[u8], from: usize, end: usize) -> &[u8]
 }
 
 // What follows a letter: this many bytes; or it begins no record.
-#[derive(Drop)]
+#[derive(Clone, Copy)]
 pub enum Body {
     Bytes(usize),
     None,
@@ -112,7 +114,7 @@ fn body_of(letter: u8, count: usize) -> Body
 }
 
 // A record is whole, with the byte after it; or it is cut off or none.
-#[derive(Drop)]
+#[derive(Clone, Copy)]
 pub enum Record {
     Whole(usize),
     Bad,

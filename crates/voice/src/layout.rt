@@ -5,7 +5,7 @@ ghost use Rattle.voice.specs.Layout.{pitches, be16, twos_complement, signed_byte
 use base::bytes::byte_at;
 
 // The tables of words, in the file's order.
-#[derive(Drop)]
+#[derive(Clone, Copy)]
 pub(crate) enum Table {
     Energy,
     Pitch,

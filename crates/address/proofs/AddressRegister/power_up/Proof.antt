@@ -1,7 +1,0 @@
--- `address::AddressRegister::power_up` meets its contract. Assumes nothing.
-use borrow.Author.Rules.{rules}
-use Rattle.address.proofs.AddressRegister.power_up.Statement.{statement}
-use Rattle.address.proofs.AddressRegister.power_up.Tie as tie
-
-pub power_up_spec : {M : Type 1} → statement M
-power_up_spec = tie.close (tie.spec (λ c. search rules))

@@ -1,0 +1,45 @@
+use borrow.Author.Rules.{rules}
+use mathlib.Core.Path.{◌≡◌, ◌∙◌}
+use Prim.Native.Nat.{◌+◌, ◌-◌, ◌≤◌}
+use native.Mathlib.Omega.{arith}
+use borrow.Rule.Slice.PartMut.{mid_of, mid_len}
+use lib.ListN.{length}
+use Rattle.base.proofs.Steps.{Filled, filled_none, filled_more, filled_part, filled_all}
+use Rattle.clock.specs.Counters.{left_of_interval}
+use Rattle.chip.specs.Types.{Chip}
+use Rattle.chip.specs.Step.{step_fault}
+use Rattle.chip.specs.Run.{sample_step}
+use Rattle.chip.proofs.Ranges.{valid_clock}
+use Rattle.chip.proofs.Stepping.{passed, sample_step_is}
+use Rattle.chip.proofs.KeptValid.{goes_on}
+use Rattle.chip.proofs.Playing.{left_few, silenced, played}
+use Rattle.chip.proofs.state.Chip.fill.Goals as goal
+
+pub samples_left-left-requires : goal.samples_left-left-requires
+samples_left-left-requires c =
+    (valid_clock c.loop-i.chip (passed _ _ c.loop-i.chip c.loop-i.invariant.holds).chip_valid).0
+
+pub loop-i-preserved-then-not-sounding : goal.loop-i-preserved-then-not-sounding
+loop-i-preserved-then-not-sounding c =
+    let e = length c.loop-i.out in
+    let p = silenced c.args.image.now c.args.voice.now (length (mid_of c.loop-i.i (e - c.loop-i.i) c.loop-i.out)) c.loop-i.chip c.loop-i.invariant.holds c.if-not-sounding.true in
+    filled_part _ _ _ c.loop-i.invariant e (omega arith) (omega (arith, c.loop-i.invariant.size)) (c.keep_silent-next.ensures.value ∙ p.state) (c.keep_silent-next.ensures.out_after ∙ p.samples) (rw c.keep_silent-next.ensures.value p.faultless)
+
+pub loop-i-preserved-then-left-eq0 : goal.loop-i-preserved-then-left-eq0
+loop-i-preserved-then-left-eq0 c =
+    filled_more _ _ _ c.loop-i.invariant (omega arith) (sample_step_is c.args.image.now c.args.voice.now c.loop-i.chip c.loop-i.invariant.holds c.take_step-stepped.ensures (search rules))
+    (goes_on c.args.image.now c.args.voice.now c.loop-i.chip c.loop-i.invariant.holds c.take_step-stepped.ensures)
+
+pub play_on-next-requires : goal.play_on-next-requires
+play_on-next-requires c =
+    let b = (let part : (1 ≤ left_of_interval c.loop-i.chip.control.clock) × (c.smaller.result ≤ left_of_interval c.loop-i.chip.control.clock) × (1 ≤ c.smaller.result) × (c.loop-i.i + c.smaller.result ≤ length c.loop-i.out) = omega (arith, c.samples_left-left.ensures, c.if-left-eq0.false, c.smaller.ensures, c.loop-i-test.true) in part) in
+    let k = mid_len c.loop-i.i (c.loop-i.i + c.smaller.result) c.loop-i.out b.3 in
+    ((passed _ _ c.loop-i.chip c.loop-i.invariant.holds).chip_valid, omega (arith, k, b, left_few c.loop-i.chip.control.clock))
+
+pub loop-i-preserved : goal.loop-i-preserved
+loop-i-preserved c =
+    let b = (let part : (1 ≤ left_of_interval c.loop-i.chip.control.clock) × (c.smaller.result ≤ left_of_interval c.loop-i.chip.control.clock) × (1 ≤ c.smaller.result) × (c.loop-i.i + c.smaller.result ≤ length c.loop-i.out) = omega (arith, c.samples_left-left.ensures, c.if-left-eq0.false, c.smaller.ensures, c.loop-i-test.true) in part) in
+    let e = c.loop-i.i + c.smaller.result in
+    let k = mid_len c.loop-i.i e c.loop-i.out b.3 in
+    let p = played c.args.image.now c.args.voice.now (length (mid_of c.loop-i.i (e - c.loop-i.i) c.loop-i.out)) c.loop-i.chip c.loop-i.invariant.holds b.0 (omega (arith, k, b)) in
+    filled_part _ _ _ c.loop-i.invariant e (omega arith) (omega (arith, b, c.loop-i.invariant.size)) (c.play_on-next.ensures.value ∙ p.state) (c.play_on-next.ensures.out_after ∙ p.samples) (rw c.play_on-next.ensures.value p.faultless)

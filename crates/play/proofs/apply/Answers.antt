@@ -1,0 +1,29 @@
+-- The sound with the targets of the frame is valid, and so is the interval; and what is interpolated stays valid.
+use mathlib.Core.Path.{◌≡◌, subst}
+use mathlib.Core.Bool.{true}
+use Prim.Native.Nat.{ℕ, ◌<◌}
+use Rattle.base.specs.Units.{intervals_per_frame}
+use Rattle.reports.specs.Reports.{Playable}
+use Rattle.sound.specs.State.{sound_valid}
+use Rattle.sound.proofs.Laws.{stays_valid}
+use Rattle.play.proofs.apply.Goals as goal
+
+pub interpolate-moved-requires : goal.interpolate-moved-requires
+interpolate-moved-requires c =
+    let a = c.args in
+    let s = c.requires in
+    let p = subst (Playable a.pitch_bits) c.in-Begin.is s.2 in
+    (rw c.set_targets-aimed.ensures (stays_valid.targets a.pitch_bits s.1.0 a.voice.now c.in-Begin.frame a.sound s.1.1 p.0 s.3), p.1)
+
+pub sample-requires : goal.sample-requires
+sample-requires c =
+    let a = c.args in
+    let s = c.requires in
+    let p = subst (Playable a.pitch_bits) c.in-Begin.is s.2 in
+    let aimed : sound_valid c.set_targets-aimed.result ≡ true =
+    rw c.set_targets-aimed.ensures (stays_valid.targets a.pitch_bits s.1.0 a.voice.now c.in-Begin.frame a.sound s.1.1 p.0 s.3) in
+    (rw c.interpolate-moved.ensures (stays_valid.interpolation _ _ aimed), s.0)
+
+pub sample-requires-in-Interpolate : goal.sample-requires-in-Interpolate
+sample-requires-in-Interpolate c =
+    (rw c.interpolate-moved-in-Interpolate.ensures (stays_valid.interpolation _ _ c.requires.3), c.requires.0)

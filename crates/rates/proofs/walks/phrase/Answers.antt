@@ -1,0 +1,12 @@
+use borrow.Author.Rules.{rules}
+use mathlib.Core.Path.{◌∙◌}
+use Rattle.rates.proofs.Answers.{phrase_room, phrase_is}
+use Rattle.rates.proofs.walks.phrase.Goals as goal
+
+pub part_of-requires : goal.part_of-requires
+part_of-requires c =
+    λ h. phrase_room _ _ _ _ c.walk-walked.ensures h
+
+pub returns : goal.returns
+returns c =
+    c.part_of.ensures ∙ phrase_is _ _ _ _ c.walk-walked.ensures

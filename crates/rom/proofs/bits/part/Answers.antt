@@ -1,0 +1,8 @@
+use borrow.Author.Rules.{rules}
+use lib.Pow.{pow_pos}
+use Rattle.rom.proofs.Words.{one_shifted, part_fits, part_is}
+use Rattle.rom.proofs.bits.part.Goals as goal
+
+pub returns : goal.returns
+returns c =
+    λ s at h. rw (one_shifted c.args.width c.requires.0) (part_is s _ at _ _ h c.requires.1)

@@ -1,0 +1,18 @@
+use borrow.Author.Rules.{rules}
+use mathlib.Core.Path.{◌≡◌, ◌∙◌}
+use mathlib.Core.List.{List}
+use Prim.Native.Nat.{ℕ}
+use native.Mathlib.Omega.{arith}
+use Rattle.rom.specs.Frames.{bit_count}
+use Rattle.rom.specs.Reader.{head_at, decoded}
+use Rattle.rom.proofs.KindLaws.{kind_bits_most}
+use Rattle.rom.proofs.Decoding.{kind_decoded, kind_length, whole_is, cut_is}
+use Rattle.rom.proofs.reader.frame_in.Goals as goal
+
+pub returns-then-end-next : goal.returns-then-end-next
+returns-then-end-next c =
+    λ s h w e. cut_is _ _ _ _ ((c.kind_bits.ensures ∙ kind_length _ _ _ h c.kind_of-kind.ensures)) e c.cut_at.ensures c.if-end-next.true
+
+pub returns : goal.returns
+returns c =
+    λ s h w e. whole_is _ _ _ _ ((c.kind_bits.ensures ∙ kind_length _ _ _ h c.kind_of-kind.ensures)) (c.frame_of-frame.ensures _ _ w ∙ kind_decoded _ _ _ h c.kind_of-kind.ensures) (omega (arith, c.if-end-next.false))
