@@ -12,38 +12,36 @@ mod listing;
 mod text;
 
 use asked::{Asked, at_argument, at_start};
-use libc::STDOUT_FILENO;
 use listing::{fill, first_line};
+use std::env::{Env, FillError};
+use std::io;
+use std::io::Write;
 use stdin::read_all;
 use text::size;
 
-// Writes the frame lines from a bit on and returns whether all are written.
-fn write_lines(image: &[u8], first: usize, lines: u32) -> bool {
+// Writes the frame lines from a bit on.
+fn write_lines(rt: &HostRuntime, image: &[u8], first: usize, lines: u32) -> io::Result<()> {
     let mut out = [0u8; 65536];
     let mut bit = first;
     let mut left = lines;
     while left > 0 {
         let filled = fill(image, bit, left, &mut out);
         let used = filled.used;
-        if !io::write_all(STDOUT_FILENO, &out[..used]) {
-            return false;
-        }
+        rt.stdout().write_all(&out[..used])?;
         bit = filled.bit;
         left = filled.left;
     }
-    true
+    Ok(())
 }
 
-// Writes the listing and returns whether all of it is written.
-fn write_listing(image: &[u8], asked: Asked) -> bool {
+// Writes the listing.
+fn write_listing(rt: &HostRuntime, image: &[u8], asked: Asked) -> io::Result<()> {
     let first = first_line(image, asked);
     let text = first.text;
     let n = size(text);
     let bytes = text.bytes;
-    if !io::write_all(STDOUT_FILENO, &bytes[..n]) {
-        return false;
-    }
-    write_lines(image, first.bit, first.lines)
+    rt.stdout().write_all(&bytes[..n])?;
+    write_lines(rt, image, first.bit, first.lines)
 }
 
 // Room for one byte more than an image may have, so that a longer input is noticed.
@@ -53,36 +51,37 @@ fn room() -> [u8; 262145]
     [0; 262145]
 }
 
-// Lists what is asked for, and reads one byte more than an image may have for it.
-fn list(asked: Asked)
+// Lists what is asked for, and reads one byte more than an image may have for it. What cannot be read or written is said on
+// standard error.
+fn list(rt: &HostRuntime, asked: Asked) -> io::Result<()>
     requires { asked.most ≤ image_limit }
 {
     let mut image = room();
     let end = asked.most + 1;
-    let input = read_all(&mut image[..end]);
-    if input.failed {
-        os::fail(b"standard input");
-        return;
+    let input = read_all(&mut rt.stdin(), &mut image[..end]);
+    if let Some(error) = input.failed {
+        return eprintln!(rt; "standard input: {error}");
     }
     let n = input.count;
-    if !write_listing(&image[..n], asked) {
-        os::fail(b"standard output");
+    match write_listing(rt, &image[..n], asked) {
+        Ok(()) => Ok(()),
+        Err(error) => eprintln!(rt; "standard output: {error}"),
     }
 }
 
-// What the first argument asks for. One that is longer than the buffer, 4,096 bytes, reads as empty, which is no number.
-fn argument() -> Asked
+// What the first argument asks for. One that is longer than the buffer reads as empty, which is no number.
+fn argument(rt: &HostRuntime) -> Asked
     ensures { result.most ≤ image_limit }
 {
-    let mut text = io::buffer();
-    let n = os::arg(1, &mut text);
-    at_argument(&text[..n])
+    let mut text = [0u8; 4096];
+    match rt.arg(1, &mut text) {
+        Ok(n) => at_argument(&text[..n]),
+        Err(FillError::TooLong) => at_argument(b""),
+        Err(FillError::NotPresent) => at_start(),
+    }
 }
 
-fn main() {
-    if os::arg_count() < 2 {
-        list(at_start());
-    } else {
-        list(argument());
-    }
+fn main(rt: HostRuntime) -> io::Result<()> {
+    let asked = argument(&rt);
+    list(&rt, asked)
 }

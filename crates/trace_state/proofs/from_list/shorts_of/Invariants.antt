@@ -1,0 +1,21 @@
+use borrow.Author.Rules.{rules}
+use mathlib.Core.Path.{◌≡◌, sym, ◌∙◌}
+use mathlib.Core.List.{map}
+use Prim.Native.Nat.{◌+◌, ◌-◌, ◌≤◌}
+use lib.IntN.{pos}
+use lib.ListN.{length, get_or, take, drop}
+use mir.Facts.{to_z-of_z}
+use mir.Syntax.{w64}
+use mir.Val.{SFits}
+use Rattle.base.proofs.Range.{back}
+use Rattle.filter.proofs.Elements.{each_fits}
+use Rattle.trace_script.specs.Script.{state_length}
+use Rattle.trace_state.specs.Numbers.{short}
+use Rattle.base.proofs.Filling.{Filled, fill_none, fill_more, fill_all, part_length, part_element}
+use Rattle.trace_state.proofs.from_list.shorts_of.Given as goal
+
+abbrev pub invariant-loop-i : goal.invariant-loop-i
+invariant-loop-i l = (l.i ≤ 10) × (length l.numbers ≡ state_length) × Filled (map short (take 10 (drop l.at l.numbers))) l.shorts l.i
+
+abbrev pub decreases-loop-i : goal.decreases-loop-i
+decreases-loop-i l = 10 - l.i

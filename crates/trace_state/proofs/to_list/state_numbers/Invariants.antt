@@ -1,0 +1,18 @@
+use borrow.Author.Rules.{rules}
+use mathlib.Core.Path.{◌≡◌, sym}
+use Prim.Native.Nat.{◌-◌, ◌≤◌}
+use lib.IntN.{pos}
+use lib.ListN.{length}
+use Rattle.trace_script.specs.Script.{state_length}
+use Rattle.trace_state.specs.Fields.{state_numbers}
+use Rattle.trace_state.specs.Numbers.{wide}
+use Rattle.base.proofs.Signed.{returned}
+use Rattle.base.proofs.Filling.{Filled, fill_none, fill_more, fill_all}
+use Rattle.chip_numbers.proofs.Places.{state_length_lem}
+use Rattle.trace_state.proofs.to_list.state_numbers.Given as goal
+
+abbrev pub invariant-loop-i : goal.invariant-loop-i
+invariant-loop-i l = (l.i ≤ state_length) × (length (state_numbers l.chip) ≡ state_length) × Filled (state_numbers l.chip) l.numbers l.i
+
+abbrev pub decreases-loop-i : goal.decreases-loop-i
+decreases-loop-i l = state_length - l.i
