@@ -1,14 +1,15 @@
 // Plays a script of calls that it reads from standard input on the library, and prints the answers.
 #![tactic(auto)]
 
-ghost use Rattle.std.specs.Prelude.{◌≡◌, ◌≤◌, length};
+ghost use Rattle.std.specs.Prelude.{◌≡◌, ◌≤◌, length, IfOk};
 ghost use Rattle.trace_script.specs.Script.{limit};
 
 mod records;
 
 use chip::state::Chip;
-use libc::STDOUT_FILENO;
 use records::{Parts, play};
+use std::io;
+use std::io::Write;
 use stdin::read_all;
 use trace_lines::lines::bad_line;
 use trace_script::{LIMIT, Record, record_at};
@@ -17,31 +18,28 @@ use trace_script::{LIMIT, Record, record_at};
 // than 59,000 bytes, so that none is cut: at most 8,192 samples of 7 bytes, 69 numbers of 21 bytes, and some 20 bytes more.
 const WAITING: usize = 6000;
 
-// Writes the buffer out where it is time. It returns how much of it is still used: all, where writing failed.
-fn relieve(out: &[u8], used: usize) -> usize
+// Writes the buffer out where it is time, and returns how much of it is still used.
+fn relieve(rt: &HostRuntime, out: &[u8], used: usize) -> io::Result<usize>
     requires { used ≤ length out.now }
-    ensures { result ≤ length out.now }
+    ensures { IfOk result (λ n. n ≤ length out.now) }
 {
     if used <= WAITING {
-        return used;
+        return Ok(used);
     }
-    if io::write_all(STDOUT_FILENO, &out[..used]) {
-        0
-    } else {
-        used
-    }
+    rt.stdout().write_all(&out[..used])?;
+    Ok(0)
 }
 
 // Ends the answers to a bad script.
-fn give_up(out: &mut [u8], used: usize) -> bool
+fn give_up(rt: &HostRuntime, out: &mut [u8], used: usize) -> io::Result<()>
     requires { used ≤ length out.old }
 {
     let end = bad_line(out, used);
-    io::write_all(STDOUT_FILENO, &out[..end])
+    rt.stdout().write_all(&out[..end])
 }
 
-// Plays a script within the limit and returns whether all lines are written.
-fn play_all(script: &[u8], out: &mut [u8]) -> bool
+// Plays a script within the limit and writes all lines.
+fn play_all(rt: &HostRuntime, script: &[u8], out: &mut [u8]) -> io::Result<()>
     requires { length script.now ≤ limit }
 {
     let mut parts = Parts {
@@ -56,25 +54,22 @@ fn play_all(script: &[u8], out: &mut [u8]) -> bool
     while at < script.len() {
         let record = record_at(script, at);
         let Record::Whole(next) = record else {
-            return give_up(out, used);
+            return give_up(rt, out, used);
         };
         parts = parts.after(script, at);
         let played = play(script, at, parts, chip, out, used);
-        used = relieve(out, played.used);
-        if used > WAITING {
-            return false;
-        }
+        used = relieve(rt, out, played.used)?;
         chip = played.chip;
         at = next;
     }
-    io::write_all(STDOUT_FILENO, &out[..used])
+    rt.stdout().write_all(&out[..used])
 }
 
-fn play_script(script: &[u8], out: &mut [u8]) -> bool {
+fn play_script(rt: &HostRuntime, script: &[u8], out: &mut [u8]) -> io::Result<()> {
     if script.len() <= LIMIT {
-        play_all(script, out)
+        play_all(rt, script, out)
     } else {
-        give_up(out, 0)
+        give_up(rt, out, 0)
     }
 }
 
@@ -85,16 +80,17 @@ fn room() -> [u8; 1048577]
     [0; 1048577]
 }
 
-fn main() {
+// What cannot be read or written is said on standard error.
+fn main(rt: HostRuntime) -> io::Result<()> {
     let mut space = room();
-    let input = read_all(&mut space);
-    if input.failed {
-        os::fail(b"standard input");
-        return;
+    let input = read_all(&mut rt.stdin(), &mut space);
+    if let Some(error) = input.failed {
+        return eprintln!(rt; "standard input: {error}");
     }
     let n = input.count;
-    let mut out = io::large_buffer();
-    if !play_script(&space[..n], &mut out) {
-        os::fail(b"standard output");
+    let mut out = [0u8; 65536];
+    match play_script(&rt, &space[..n], &mut out) {
+        Ok(()) => Ok(()),
+        Err(error) => eprintln!(rt; "standard output: {error}"),
     }
 }
