@@ -1,0 +1,8 @@
+use mathlib.Core.Path.{sym}
+use Prim.Native.Nat.{ℕ}
+use lib.ListN.{length-replicate}
+use Rattle.trace.proofs.room.Goals as goal
+
+pub returns : goal.returns
+returns c =
+    sym (length-replicate {0} {A = ℕ} 1048577 0)
