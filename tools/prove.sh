@@ -12,19 +12,20 @@ fail() {
 # The crate $1 and those of the repository that it depends on.
 crates_of() {
     local crate
-    for crate in "$1" $(sed -n "s/^$1://p" "$root/crates.txt"); do
+    for crate in "$1" $(sed -n "s/^$1\( staticlib\)\{0,1\}://p" "$root/crates.txt"); do
         [ ! -d "$root/crates/$crate" ] || printf '%s\n' "$crate"
     done
 }
 
-# Whether $2 is built from the sources of crate $1, and from the other files and folders that are named, as they are now.
+# Whether $2 is built from the sources of crate $1, and from the other files and folders that are named, as they are now. What rt keeps
+# in a crate's out/ is no source.
 is_built() {
     local crate built=$2 sources=("$root/crates.txt" "${@:3}")
     [ -e "$built" ] || return 1
     for crate in $(crates_of "$1"); do
         sources+=("$root/crates/$crate")
     done
-    [ -z "$(find "${sources[@]}" -newer "$built" -print -quit)" ]
+    [ -z "$(find "${sources[@]}" -name out -prune -o -newer "$built" -print -quit)" ]
 }
 
 # Ends the command where $1, as users call it, cannot be built.
@@ -37,20 +38,22 @@ can_build() {
 # Proves and builds crate $1 by `rt $2`; users call it $3. What rt says of each crate is passed on as it comes, with how many of how many
 # they are; what the prover says is shown where it fails, the last of it.
 prove() {
-    local line count=0 prover=() crates=()
+    local line crate= count=0 prover=() crates=()
     mapfile -t crates < <(crates_of "$1")
     say "proving and building $3, which may take some minutes"
     while IFS= read -r line; do
         case $line in
-        'rt: '*' proved ('*)
-            count=$((count + 1))
-            say "${line#rt: }, $count of ${#crates[@]}"
+        'crate '*': modules '*)
+            crate=${line#crate }
+            crate=${crate%%:*}
             ;;
-        'rt: target/staticlib/'*) say "$1 proved, $((count + 1)) of ${#crates[@]}" ;; # rt says of an archive only where it is
-        'rt: '*) say "${line#rt: }" ;;
+        'logic=proved '*)
+            count=$((count + 1))
+            say "$crate proved, $count of ${#crates[@]}"
+            ;;
         *) prover+=("$line") ;;
         esac
-    done < <(cd "$root" && exec rt "$2" "$1" </dev/null 2>&1)
+    done < <(cd "$root/crates/$1" && exec rt "$2" </dev/null 2>&1)
     wait $! || {
         [ ${#prover[@]} -eq 0 ] || printf '%s\n' "${prover[@]}" | tail -n 20 >&2
         fail "$3 is not proved"

@@ -13,7 +13,7 @@ use Rattle.fifo.proofs.Held.{held_length, held_appended}
 use Rattle.control.specs.State.{start_level}
 use Rattle.control.specs.Validity.{fifo_valid, control_valid}
 use Rattle.fifo.specs.Buffer.{bits_of_byte, held_bits}
-use Rattle.control.specs.Commands.{command_of, is_reset, waits, waits_now}
+use Rattle.control.specs.Commands.{command_of, is_reset, waits}
 use Rattle.control.proofs.Busy.{not_busy}
 use Rattle.control.proofs.Ranges.{control_ranges, mode_ranges, valid_fits}
 use Rattle.bus.specs.Commands.{sound_kept, talking, obeyed}

@@ -1,5 +1,5 @@
 -- Demand 3 by example: two small images, each with a list of calls and its answers.
-use Rattle.std.specs.Prelude.{◌≡◌, refl, List, [], ◌∷◌, ◌++◌, ℕ, replicate}
+use Rattle.std.specs.Prelude.{◌≡◌, refl, List, [], ◌∷◌, ℕ}
 use Rattle.base.specs.Refusals.{TAKEN, WAIT, BEYOND, VOICE_SIZE}
 use Rattle.rom.specs.Frames.{pitch_width}
 use Rattle.rom.specs.Phrases.{FramesThere}

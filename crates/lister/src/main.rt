@@ -15,7 +15,7 @@ use asked::{Asked, at_argument, at_start};
 use listing::{fill, first_line};
 use std::env::{Env, FillError};
 use std::io;
-use std::io::Write;
+use std::io::{ErrorKind, Write};
 use stdin::read_all;
 use text::size;
 
@@ -52,7 +52,7 @@ fn room() -> [u8; 262145]
 }
 
 // Lists what is asked for, and reads one byte more than an image may have for it. What cannot be read or written is said on
-// standard error.
+// standard error; nothing is said where the reader has seen enough.
 fn list(rt: &HostRuntime, asked: Asked) -> io::Result<()>
     requires { asked.most ≤ image_limit }
 {
@@ -64,8 +64,10 @@ fn list(rt: &HostRuntime, asked: Asked) -> io::Result<()>
     }
     let n = input.count;
     match write_listing(rt, &image[..n], asked) {
-        Ok(()) => Ok(()),
-        Err(error) => eprintln!(rt; "standard output: {error}"),
+        Err(error) if error.kind() != ErrorKind::BrokenPipe => {
+            eprintln!(rt; "standard output: {error}")
+        }
+        _ => Ok(()),
     }
 }
 

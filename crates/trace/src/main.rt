@@ -9,7 +9,7 @@ mod records;
 use chip::state::Chip;
 use records::{Parts, play};
 use std::io;
-use std::io::Write;
+use std::io::{ErrorKind, Write};
 use stdin::read_all;
 use trace_lines::lines::bad_line;
 use trace_script::{LIMIT, Record, record_at};
@@ -80,7 +80,7 @@ fn room() -> [u8; 1048577]
     [0; 1048577]
 }
 
-// What cannot be read or written is said on standard error.
+// What cannot be read or written is said on standard error; nothing is said where the reader has seen enough.
 fn main(rt: HostRuntime) -> io::Result<()> {
     let mut space = room();
     let input = read_all(&mut rt.stdin(), &mut space);
@@ -90,7 +90,9 @@ fn main(rt: HostRuntime) -> io::Result<()> {
     let n = input.count;
     let mut out = [0u8; 65536];
     match play_script(&rt, &space[..n], &mut out) {
-        Ok(()) => Ok(()),
-        Err(error) => eprintln!(rt; "standard output: {error}"),
+        Err(error) if error.kind() != ErrorKind::BrokenPipe => {
+            eprintln!(rt; "standard output: {error}")
+        }
+        _ => Ok(()),
     }
 }

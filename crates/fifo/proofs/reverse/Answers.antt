@@ -1,9 +1,8 @@
-use borrow.Author.Rules.{rules}
 use mathlib.Core.Path.{◌≡◌}
 use Prim.Native.Nat.{ℕ, ◌+◌, ◌*◌, ◌/◌, ◌%◌, ◌<◌}
 use native.Mathlib.Omega.{arith}
 use Rattle.rom.specs.Bits.{digits}
-use Rattle.fifo.specs.Buffer.{number_of, reversed}
+use Rattle.fifo.specs.Buffer.{reversed}
 use Rattle.fifo.proofs.reverse.Goals as goal
 
 -- the number of eight bits, added up as the code does, and that it is a byte

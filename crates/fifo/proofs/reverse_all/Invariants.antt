@@ -1,11 +1,8 @@
-use borrow.Author.Rules.{rules}
-use mathlib.Core.Path.{◌≡◌, sym, ◌∙◌}
+use mathlib.Core.Path.{◌≡◌}
 use mathlib.Core.List.{map}
 use Prim.Native.Nat.{◌-◌, ◌≤◌}
-use native.Mathlib.Omega.{arith}
-use lib.Dec.{lit≤}
-use lib.ListN.{length, length-map, get_or-map}
-use Rattle.base.proofs.Filling.{Filled, fill_none, fill_more, fill_all}
+use lib.ListN.{length}
+use Rattle.base.proofs.Filling.{Filled}
 use Rattle.fifo.specs.Buffer.{reversed}
 use Rattle.fifo.proofs.reverse_all.Given as goal
 

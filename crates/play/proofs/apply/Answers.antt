@@ -1,8 +1,6 @@
 -- The sound with the targets of the frame is valid, and so is the interval; and what is interpolated stays valid.
 use mathlib.Core.Path.{◌≡◌, subst}
 use mathlib.Core.Bool.{true}
-use Prim.Native.Nat.{ℕ, ◌<◌}
-use Rattle.base.specs.Units.{intervals_per_frame}
 use Rattle.reports.specs.Reports.{Playable}
 use Rattle.sound.specs.State.{sound_valid}
 use Rattle.sound.proofs.Laws.{stays_valid}

@@ -1,4 +1,3 @@
-use borrow.Author.Rules.{rules}
 use borrow.Author.Tests.{eq-eqb, ne_eqb}
 use Rattle.trace_script.specs.Script.{body_of}
 use Rattle.trace_script.proofs.body_of.Goals as goal

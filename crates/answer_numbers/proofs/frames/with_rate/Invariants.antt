@@ -1,9 +1,7 @@
-use borrow.Author.Rules.{rules}
-use mathlib.Core.Path.{◌≡◌, refl, ap, ◌∙◌}
+use mathlib.Core.Path.{◌≡◌}
 use Prim.Native.Nat.{◌-◌, ◌≤◌}
-use native.Mathlib.Omega.{arith}
-use lib.ListN.{length, get_or, set}
-use Rattle.answer_numbers.proofs.Copied.{copied, copy_more, copy_all}
+use lib.ListN.{length}
+use Rattle.answer_numbers.proofs.Copied.{copied}
 use Rattle.answer_numbers.proofs.frames.with_rate.Given as goal
 
 abbrev pub invariant-loop-i : goal.invariant-loop-i

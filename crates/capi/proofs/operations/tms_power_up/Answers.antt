@@ -1,10 +1,8 @@
-use borrow.Author.Rules.{rules}
 use mathlib.Core.Path.{◌≡◌, refl, sym, ◌∙◌}
 use mathlib.Core.Bool.{◌||◌}
-use native.Mathlib.Omega.{arith}
 use lib.Dec.{ltb}
-use Rattle.base.proofs.Booleans.{cond_true, cond_false}
-use Rattle.base.proofs.Faults.{answered, refused_with}
+use Rattle.base.proofs.Booleans.{cond_false}
+use Rattle.base.proofs.Faults.{answered}
 use Rattle.capi.specs.Operations.{name_fault}
 use Rattle.capi.proofs.Valid.{power_up_named_valid}
 use Rattle.capi.proofs.operations.tms_power_up.Goals as goal
@@ -18,5 +16,5 @@ returns c =
       value = e;
       chip_after = answered e (λ r. c.args.chip.now) _ refl (rw c.power_up_named-fresh.ensures at made.value);
       says_next = λ h.
-      made.comes_back (rw c.power_up_named-fresh.ensures (power_up_named_valid c.args.device c.args.bit_order)) ∙ c.power_up_named-fresh.ensures;
+          made.comes_back (rw c.power_up_named-fresh.ensures (power_up_named_valid c.args.device c.args.bit_order)) ∙ c.power_up_named-fresh.ensures;
     }

@@ -39,8 +39,8 @@ returns c =
       value = z;
       chip_after = answered z (λ r. c.args.chip.now) _ refl (c.numbers_of-after.ensures.value ∙ ap (λ (w : Stepped). chip_numbers w.chip) w);
       says_next = λ r.
-      c.numbers_of-after.ensures.comes_back (ap (λ (w : Stepped). valid w.chip) w ∙ step_valid c.args.image.now c.args.voice.now (chip_of c.args.chip.now) r)
-      ∙ ap (λ (w : Stepped). w.chip) w;
+          c.numbers_of-after.ensures.comes_back (ap (λ (w : Stepped). valid w.chip) w ∙ step_valid c.args.image.now c.args.voice.now (chip_of c.args.chip.now) r)
+          ∙ ap (λ (w : Stepped). w.chip) w;
       sample_after = back_at w16 _ (search rules) ∙ ap (λ (w : Stepped). w.sample) w;
       report_after = c.number.ensures ∙ ap (λ (w : Stepped). report_number w.report) w;
       frame_after = g ∙ ap (λ (w : Stepped). frame_bytes (report_frame w.report) w.details.rate) w;

@@ -1,4 +1,3 @@
-use borrow.Author.Rules.{rules}
 use mathlib.Core.Path.{ap, ◌∙◌}
 use Rattle.chip.specs.declared.write.Written.{Written}
 use Rattle.chip_numbers.specs.Chips.{chip_of}

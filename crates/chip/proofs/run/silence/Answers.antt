@@ -1,10 +1,8 @@
-use borrow.Author.Rules.{rules}
 use mathlib.Core.Path.{refl, ◌∙◌}
-use Prim.Native.Nat.{◌-◌}
 use native.Mathlib.Omega.{arith}
 use lib.IntN.{ℤ, pos}
 use lib.ListN.{length}
-use Rattle.base.proofs.Steps.{same_outputs, Filled, filled_none, filled_more, filled_all}
+use Rattle.base.proofs.Steps.{same_outputs, filled_more, filled_all}
 use Rattle.chip.proofs.run.silence.Goals as goal
 
 -- a step that gives silence

@@ -1,10 +1,7 @@
-use borrow.Author.Rules.{rules}
-use mathlib.Core.Path.{refl, ◌∙◌}
 use Prim.Native.Nat.{◌-◌}
-use native.Mathlib.Omega.{arith}
 use lib.IntN.{ℤ, pos}
 use lib.ListN.{length}
-use Rattle.base.proofs.Steps.{same_outputs, Filled, filled_none, filled_more, filled_all}
+use Rattle.base.proofs.Steps.{Filled}
 use Rattle.chip.proofs.run.silence.Given as goal
 
 -- a step that gives silence

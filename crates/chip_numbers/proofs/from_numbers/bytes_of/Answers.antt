@@ -1,12 +1,10 @@
 use borrow.Author.Rules.{rules}
 use mathlib.Core.Path.{◌≡◌, sym, ◌∙◌}
-use mathlib.Core.List.{map}
-use Prim.Native.Nat.{◌-◌, ◌≤◌}
 use lib.IntN.{pos}
-use lib.ListN.{length, take, drop}
+use lib.ListN.{length}
 use Rattle.chip_numbers.specs.Chips.{chip_length}
 use Rattle.chip_numbers.specs.Numbers.{byte_of}
-use Rattle.base.proofs.Filling.{Filled, fill_none, fill_more, fill_all, part_length, part_element}
+use Rattle.base.proofs.Filling.{fill_none, fill_more, fill_all, part_length, part_element}
 use Rattle.chip_numbers.proofs.from_numbers.bytes_of.Goals as goal
 
 pub returns : goal.returns

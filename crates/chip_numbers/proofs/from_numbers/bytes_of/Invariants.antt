@@ -1,12 +1,10 @@
-use borrow.Author.Rules.{rules}
-use mathlib.Core.Path.{◌≡◌, sym, ◌∙◌}
+use mathlib.Core.Path.{◌≡◌}
 use mathlib.Core.List.{map}
 use Prim.Native.Nat.{◌-◌, ◌≤◌}
-use lib.IntN.{pos}
 use lib.ListN.{length, take, drop}
 use Rattle.chip_numbers.specs.Chips.{chip_length}
 use Rattle.chip_numbers.specs.Numbers.{byte_of}
-use Rattle.base.proofs.Filling.{Filled, fill_none, fill_more, fill_all, part_length, part_element}
+use Rattle.base.proofs.Filling.{Filled}
 use Rattle.chip_numbers.proofs.from_numbers.bytes_of.Given as goal
 
 abbrev pub invariant-loop-i : goal.invariant-loop-i

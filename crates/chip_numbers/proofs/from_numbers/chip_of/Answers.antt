@@ -1,4 +1,3 @@
-use borrow.Author.Rules.{rules}
 use Rattle.chip_numbers.specs.Chips.{chip_of}
 use Rattle.chip_numbers.proofs.from_numbers.chip_of.Goals as goal
 

@@ -1,4 +1,3 @@
-use borrow.Author.Rules.{rules}
 use Rattle.chip_numbers.specs.Chips.{fits}
 use Rattle.chip_numbers.proofs.from_numbers.fits.Goals as goal
 

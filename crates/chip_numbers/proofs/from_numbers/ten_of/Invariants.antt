@@ -1,16 +1,8 @@
-use borrow.Author.Rules.{rules}
-use mathlib.Core.Path.{◌≡◌, sym}
-use Prim.Native.Nat.{◌+◌, ◌-◌, ◌≤◌}
-use native.Mathlib.Omega.{arith}
-use lib.IntN.{pos}
-use lib.ListN.{length, get_or, take, drop}
-use mir.Facts.{to_z-of_z}
-use mir.Syntax.{w32}
-use mir.Val.{SFits}
-use Rattle.base.proofs.Filling.{Filled, fill_none, fill_more, fill_all}
-use Rattle.filter.proofs.Elements.{each_fits}
+use mathlib.Core.Path.{◌≡◌}
+use Prim.Native.Nat.{◌-◌, ◌≤◌}
+use lib.ListN.{length, take, drop}
+use Rattle.base.proofs.Filling.{Filled}
 use Rattle.chip_numbers.specs.Chips.{chip_length}
-use Rattle.chip_numbers.proofs.Parts.{ten_length, ten_element}
 use Rattle.chip_numbers.proofs.from_numbers.ten_of.Given as goal
 
 abbrev pub invariant-loop-i : goal.invariant-loop-i

@@ -1,11 +1,11 @@
 -- The numbers that the four parts put are the chip's, and it comes back from them.
 use borrow.Author.Rules.{rules}
-use mathlib.Core.Path.{◌≡◌, ap, ◌∙◌}
+use mathlib.Core.Path.{ap, ◌∙◌}
 use native.Mathlib.Omega.{arith}
 use lib.ListN.{get_or}
 use mir.Syntax.{w8}
 use mir.Val.{Fits}
-use Rattle.chip_numbers.specs.Chips.{chip_of, chip_numbers}
+use Rattle.chip_numbers.specs.Chips.{chip_of}
 use Rattle.chip_numbers.specs.Laws.{OfBytes}
 use Rattle.chip_numbers.proofs.Pasting.{put_chip}
 use Rattle.chip_numbers.proofs.Theorems.{comes_back}

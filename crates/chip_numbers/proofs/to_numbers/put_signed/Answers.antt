@@ -1,13 +1,11 @@
-use borrow.Author.Rules.{rules}
-use Prim.Native.Nat.{◌-◌}
 use native.Mathlib.Omega.{arith}
 use lib.IntN.{pos}
-use lib.ListN.{length, get_or}
+use lib.ListN.{get_or}
 use mir.Facts.{to_z-of_z}
 use mir.Syntax.{w32}
 use mir.Val.{SFits}
 use Rattle.filter.proofs.Elements.{each_fits}
-use Rattle.chip_numbers.proofs.Pasting.{Pasted, put_none, put_more, put_all}
+use Rattle.chip_numbers.proofs.Pasting.{put_more}
 use Rattle.chip_numbers.proofs.to_numbers.put_signed.Goals as goal
 
 pub loop-i-preserved : goal.loop-i-preserved

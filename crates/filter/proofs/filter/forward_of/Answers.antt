@@ -1,6 +1,5 @@
-use borrow.Author.Rules.{rules}
 use mathlib.Core.Path.{◌∙◌}
-use Rattle.base.proofs.Range.{fits, read, passed, back, wider, difference}
+use Rattle.base.proofs.Range.{read, back, difference}
 use Rattle.filter.proofs.filter.forward_of.Goals as goal
 
 pub returns : goal.returns

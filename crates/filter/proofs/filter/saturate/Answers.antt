@@ -2,7 +2,7 @@ use borrow.Author.Rules.{rules}
 use mathlib.Core.Path.{◌≡◌, sym, ◌∙◌}
 use mathlib.Core.Bool.{true, false, not, cond}
 use mathlib.Core.List.{[], ◌∷◌}
-use Prim.Native.Nat.{ℕ, ◌+◌, ◌-◌, ◌/◌, ◌≤◌, ◌<◌}
+use Prim.Native.Nat.{ℕ, ◌+◌, ◌-◌, ◌/◌, ◌≤◌}
 use borrow.Author.Tests.{not-false, not-true}
 use lib.Dec.{T}
 use lib.IntN.{ℤ, pos, negsuc, nat_abs, ◌+ℤ◌}
@@ -10,7 +10,7 @@ use lib.ListN.{get_or}
 use lib.Signed.{lt_z, non_neg}
 use Rattle.base.specs.Range.{Between, inside, clamped}
 use Rattle.base.proofs.Booleans.{both_true, and_true, cond_true, cond_false}
-use Rattle.base.proofs.Range.{parts_add, ordered, read, fits}
+use Rattle.base.proofs.Range.{parts_add, ordered, read}
 use Rattle.filter.specs.Filter.{saturated}
 use Rattle.filter.specs.Ranges.{memory_min, memory_max, sum_limit}
 use Rattle.filter.proofs.Ranges.{saturated_range}

@@ -1,10 +1,5 @@
-use borrow.Author.Rules.{rules}
-use mathlib.Core.Path.{◌≡◌, sym}
-use native.Mathlib.Numerals.{add-one}
-use lib.Seq.{set_out}
 use Rattle.base.specs.Range.{Between}
-use Rattle.base.proofs.Range.{read, back, passed}
-use Rattle.filter.specs.Stages.{stage_forward}
+use Rattle.base.proofs.Range.{read, passed}
 use Rattle.filter.proofs.Ranges.{saturated_range}
 use Rattle.filter.proofs.filter.stage.Goals as goal
 

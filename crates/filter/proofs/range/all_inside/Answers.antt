@@ -1,17 +1,9 @@
 use borrow.Author.Rules.{rules}
-use mathlib.Core.Path.{◌≡◌, refl, sym, ◌∙◌}
-use mathlib.Core.Bool.{◌&&◌, and_assoc, and-true}
-use Prim.Native.Nat.{◌-◌, ◌≤◌}
-use native.Mathlib.Numerals.{add-one}
-use lib.Dec.{lit≤}
-use lib.IntN.{pos}
-use lib.ListN.{length, get_or, drop}
-use lib.Seq.{drop-cons, drop-length}
+use mathlib.Core.Path.{◌≡◌}
+use mathlib.Core.Bool.{and-true}
+use lib.ListN.{length}
+use lib.Seq.{drop-length}
 use mir.Facts.{to_z-of_z}
-use mir.Syntax.{w32}
-use mir.Val.{to_z, SFits}
-use Rattle.base.specs.Range.{all_inside}
-use Rattle.filter.proofs.Elements.{each_fits}
 use Rattle.filter.proofs.range.all_inside.Goals as goal
 
 pub returns : goal.returns

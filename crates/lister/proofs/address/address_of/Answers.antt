@@ -1,7 +1,5 @@
 use borrow.Author.Rules.{rules}
-use Prim.Native.Nat.{◌-◌}
-use lib.ListN.{length}
-use Rattle.lister.proofs.AddressLaws.{Reading, reading_none, reading_more, reading_done, address_none}
+use Rattle.lister.proofs.AddressLaws.{reading_more, reading_done, address_none}
 use Rattle.lister.proofs.address.address_of.Goals as goal
 
 pub returns-then-text-eq0 : goal.returns-then-text-eq0

@@ -1,4 +1,3 @@
-use borrow.Author.Rules.{rules}
 use Rattle.lister.proofs.AddressLaws.{address_low, address_high, address_digit, address_far}
 use Rattle.lister.proofs.address.with_digit.Goals as goal
 

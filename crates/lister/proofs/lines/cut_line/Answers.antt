@@ -1,4 +1,3 @@
-use borrow.Author.Rules.{rules}
 use Rattle.lister.specs.Lines.{cut_line}
 use Rattle.lister.proofs.Texts.{holds_nothing, holds_more, holds_all}
 use Rattle.lister.proofs.LineLaws.{cut_length}

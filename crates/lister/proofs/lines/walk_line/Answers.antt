@@ -1,4 +1,3 @@
-use borrow.Author.Rules.{rules}
 use borrow.Author.Tests.{eq-eqb, ne_eqb}
 use Rattle.base.specs.Refusals.{NO_PHRASE}
 use Rattle.lister.specs.Lines.{walk_line}

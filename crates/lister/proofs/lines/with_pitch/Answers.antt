@@ -1,4 +1,3 @@
-use borrow.Author.Rules.{rules}
 use borrow.Author.Tests.{le-leb, lt-leb}
 use Rattle.lister.specs.Lines.{pitch_text}
 use Rattle.lister.proofs.lines.with_pitch.Goals as goal

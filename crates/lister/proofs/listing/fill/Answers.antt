@@ -1,6 +1,6 @@
 -- A line more at each turn, until the lines or the room end.
 use borrow.Author.Rules.{rules}
-use mathlib.Core.Path.{◌≡◌, ◌∙◌}
+use mathlib.Core.Path.{◌∙◌}
 use Rattle.lister.proofs.Filling.{filling_none, filling_more}
 use Rattle.lister.proofs.listing.fill.Goals as goal
 

@@ -1,7 +1,6 @@
-use borrow.Author.Rules.{rules}
-use mathlib.Core.Path.{◌≡◌, ◌∙◌}
+use mathlib.Core.Path.{◌≡◌}
 use lib.ListN.{length}
-use Rattle.lister.proofs.Filling.{Filling, filling_none, filling_more}
+use Rattle.lister.proofs.Filling.{Filling}
 use Rattle.lister.proofs.listing.fill.Given as goal
 
 abbrev pub invariant-loop-left : goal.invariant-loop-left

@@ -1,9 +1,9 @@
 use borrow.Author.Rules.{rules}
 use mathlib.Core.Path.{◌≡◌}
-use Prim.Native.Nat.{◌-◌, ◌≤◌}
+use Prim.Native.Nat.{◌≤◌}
 use lib.ListN.{length, length-take}
 use Rattle.lister.specs.Text.{contents}
-use Rattle.lister.proofs.Copies.{Copied, copied_none, copied_more, take_taken}
+use Rattle.lister.proofs.Copies.{copied_none, take_taken}
 use Rattle.lister.proofs.listing.put.Goals as goal
 
 pub bounds-bytes-i : goal.bounds-bytes-i

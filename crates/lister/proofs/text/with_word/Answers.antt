@@ -1,10 +1,7 @@
 use borrow.Author.Rules.{rules}
-use mathlib.Core.Path.{◌≡◌, ◌∙◌}
-use Prim.Native.Nat.{◌-◌, ◌≤◌}
+use mathlib.Core.Path.{◌∙◌}
 use native.Mathlib.Numerals.{add-one}
-use lib.ListN.{length, take}
 use lib.Seq.{take-suc, take_all}
-use Rattle.lister.specs.Text.{contents, appended}
 use Rattle.lister.proofs.Texts.{appended_twice, nothing_appended}
 use Rattle.lister.proofs.text.with_word.Goals as goal
 
@@ -17,9 +14,8 @@ loop-i-init c =
     (search rules, nothing_appended c.args.t (search rules))
 
 pub loop-i-preserved : goal.loop-i-preserved
-loop-i-preserved c =
-    (
-      search rules,
-      rw (add-one, take-suc c.args.word.now c.loop-i.i 0 (search rules))
-          (c.with_byte-r.ensures ∙ appended_twice c.args.t c.loop-i.r _ _ c.loop-i.invariant.1),
-    )
+loop-i-preserved c = (
+  search rules,
+  rw (add-one, take-suc c.args.word.now c.loop-i.i 0 (search rules))
+      (c.with_byte-r.ensures ∙ appended_twice c.args.t c.loop-i.r _ _ c.loop-i.invariant.1),
+)

@@ -1,11 +1,7 @@
-use borrow.Author.Rules.{rules}
-use mathlib.Core.Path.{◌≡◌, ◌∙◌}
+use mathlib.Core.Path.{◌≡◌}
 use Prim.Native.Nat.{◌-◌, ◌≤◌}
-use native.Mathlib.Numerals.{add-one}
 use lib.ListN.{length, take}
-use lib.Seq.{take-suc, take_all}
 use Rattle.lister.specs.Text.{contents, appended}
-use Rattle.lister.proofs.Texts.{appended_twice, nothing_appended}
 use Rattle.lister.proofs.text.with_word.Given as goal
 
 abbrev pub invariant-loop-i : goal.invariant-loop-i

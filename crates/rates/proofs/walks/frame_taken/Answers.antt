@@ -1,12 +1,5 @@
-use borrow.Author.Rules.{rules}
-use Prim.Native.Nat.{◌+◌, ◌/◌, ◌≤◌, ◌<◌}
 use native.Mathlib.Omega.{arith}
-use lib.ListN.{length}
-use Rattle.rom.specs.Bits.{image_limit}
-use Rattle.rom.proofs.WholeFrame.{WholeFrame, whole_frame_lem}
-use Rattle.rates.specs.Walks.{only_v}
-use Rattle.rates.proofs.Rates.{prefix_few}
-use Rattle.rates.proofs.Checks.{in_image}
+use Rattle.rom.proofs.WholeFrame.{whole_frame_lem}
 use Rattle.rates.proofs.Answers.{with_numbers, take_refused, take_cut, take_whole}
 use Rattle.rates.proofs.walks.frame_taken.Goals as goal
 

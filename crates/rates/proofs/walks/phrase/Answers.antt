@@ -1,4 +1,3 @@
-use borrow.Author.Rules.{rules}
 use mathlib.Core.Path.{◌∙◌}
 use Rattle.rates.proofs.Answers.{phrase_room, phrase_is}
 use Rattle.rates.proofs.walks.phrase.Goals as goal

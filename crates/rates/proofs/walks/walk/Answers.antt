@@ -1,9 +1,3 @@
-use borrow.Author.Rules.{rules}
-use Prim.Native.Nat.{◌≤◌, ◌<◌}
-use native.Mathlib.Omega.{arith}
-use lib.ListN.{length}
-use Rattle.rom.specs.Bits.{image_limit}
-use Rattle.rates.proofs.Checks.{in_image}
 use Rattle.rates.proofs.Answers.{walk_refused_lem, walk_answered}
 use Rattle.rates.proofs.walks.walk.Goals as goal
 

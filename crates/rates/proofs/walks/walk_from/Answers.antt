@@ -1,12 +1,6 @@
-use borrow.Author.Rules.{rules}
-use mathlib.Core.Path.{◌≡◌, refl, sym, ◌∙◌}
-use Prim.Native.Nat.{◌+◌, ◌*◌, ◌-◌, ◌≤◌, ◌<◌}
+use mathlib.Core.Path.{refl, sym, ◌∙◌}
 use native.Mathlib.Omega.{arith}
-use lib.ListN.{length}
-use Rattle.rom.specs.Reader.{frame_from}
-use Rattle.rates.specs.Rates.{prefix_bits}
-use Rattle.rates.proofs.Rates.{prefix_few}
-use Rattle.rates.proofs.Walking.{Come, come_first, come_cut, come_stop, come_on, further}
+use Rattle.rates.proofs.Walking.{come_cut, come_stop, come_on, further}
 use Rattle.rates.proofs.walks.walk_from.Goals as goal
 
 pub returns-in_default : goal.returns-in_default
@@ -32,10 +26,9 @@ loop-frame-smaller c =
     omega (arith, (further c.args.rate c.loop-frame.invariant.1 c.loop-frame.invariant.0.0 c.field_at-bits.ensures ((c.frame_in-answer.ensures _ (c.head_of-head.ensures _ _ c.narrow_at.ensures) c.wide_at.ensures refl)) c.in-Whole.is))
 
 pub loop-frame-preserved : goal.loop-frame-preserved
-loop-frame-preserved c =
-    (
-      (c.loop-frame.invariant.0.0, rw c.kept_by-kept.ensures (omega arith)),
-      rw c.kept_by-kept.ensures
-          (come_on c.args.rate c.loop-frame.invariant.1 c.loop-frame.invariant.0.0 c.field_at-bits.ensures ((c.frame_in-answer.ensures _ (c.head_of-head.ensures _ _ c.narrow_at.ensures) c.wide_at.ensures refl))
-          c.in-Whole.is (sym c.is_stop.ensures ∙ c.if-is_stop.false)),
-    )
+loop-frame-preserved c = (
+  (c.loop-frame.invariant.0.0, rw c.kept_by-kept.ensures (omega arith)),
+  rw c.kept_by-kept.ensures
+      (come_on c.args.rate c.loop-frame.invariant.1 c.loop-frame.invariant.0.0 c.field_at-bits.ensures ((c.frame_in-answer.ensures _ (c.head_of-head.ensures _ _ c.narrow_at.ensures) c.wide_at.ensures refl))
+      c.in-Whole.is (sym c.is_stop.ensures ∙ c.if-is_stop.false)),
+)

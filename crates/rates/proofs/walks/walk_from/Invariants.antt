@@ -1,12 +1,8 @@
-use borrow.Author.Rules.{rules}
-use mathlib.Core.Path.{◌≡◌, refl, sym, ◌∙◌}
-use Prim.Native.Nat.{◌+◌, ◌*◌, ◌-◌, ◌≤◌, ◌<◌}
-use native.Mathlib.Omega.{arith}
+use mathlib.Core.Path.{◌≡◌}
+use Prim.Native.Nat.{◌*◌, ◌-◌, ◌≤◌}
 use lib.ListN.{length}
-use Rattle.rom.specs.Reader.{frame_from}
 use Rattle.rates.specs.Rates.{prefix_bits}
-use Rattle.rates.proofs.Rates.{prefix_few}
-use Rattle.rates.proofs.Walking.{Come, come_first, come_cut, come_stop, come_on, further}
+use Rattle.rates.proofs.Walking.{Come}
 use Rattle.rates.proofs.walks.walk_from.Given as goal
 
 abbrev pub invariant-loop-frame : goal.invariant-loop-frame

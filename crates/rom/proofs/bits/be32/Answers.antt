@@ -1,4 +1,3 @@
-use borrow.Author.Rules.{rules}
 use mathlib.Core.Path.{◌∙◌}
 use Rattle.rom.proofs.Words.{word_is}
 use Rattle.rom.proofs.bits.be32.Goals as goal

@@ -1,4 +1,3 @@
-use borrow.Author.Rules.{rules}
 use mathlib.Core.Path.{◌∙◌}
 use Rattle.rom.proofs.Words.{word_fits, words_are}
 use Rattle.rom.proofs.bits.be64.Goals as goal

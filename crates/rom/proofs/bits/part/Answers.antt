@@ -1,6 +1,4 @@
-use borrow.Author.Rules.{rules}
-use lib.Pow.{pow_pos}
-use Rattle.rom.proofs.Words.{one_shifted, part_fits, part_is}
+use Rattle.rom.proofs.Words.{one_shifted, part_is}
 use Rattle.rom.proofs.bits.part.Goals as goal
 
 pub returns : goal.returns

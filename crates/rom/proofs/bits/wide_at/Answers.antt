@@ -1,4 +1,3 @@
-use borrow.Author.Rules.{rules}
 use Rattle.rom.specs.Window.{wide}
 use Rattle.rom.proofs.Words.{window_is}
 use Rattle.rom.proofs.bits.wide_at.Goals as goal

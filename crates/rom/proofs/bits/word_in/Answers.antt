@@ -1,6 +1,5 @@
-use borrow.Author.Rules.{rules}
 use mathlib.Core.Path.{◌∙◌}
-use Rattle.rom.proofs.Words.{backwards_fits, turned_is}
+use Rattle.rom.proofs.Words.{turned_is}
 use Rattle.rom.proofs.bits.word_in.Goals as goal
 
 pub returns : goal.returns

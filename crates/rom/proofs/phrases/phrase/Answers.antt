@@ -1,4 +1,3 @@
-use borrow.Author.Rules.{rules}
 use mathlib.Core.Path.{◌∙◌}
 use Rattle.rom.proofs.Theorems.{phrase_room, phrase_is}
 use Rattle.rom.proofs.phrases.phrase.Goals as goal

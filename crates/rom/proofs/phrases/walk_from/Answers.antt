@@ -1,11 +1,7 @@
-use borrow.Author.Rules.{rules}
-use mathlib.Core.Path.{◌≡◌, refl, sym, ◌∙◌}
-use Prim.Native.Nat.{◌*◌, ◌-◌}
+use mathlib.Core.Path.{refl, sym, ◌∙◌}
 use native.Mathlib.Omega.{arith}
-use lib.ListN.{length}
-use Rattle.rom.specs.Reader.{frame_at}
-use Rattle.rom.proofs.WholeFrame.{WholeFrame, whole_frame_lem}
-use Rattle.rom.proofs.Walking.{Come, come_first, come_cut, come_stop, come_on}
+use Rattle.rom.proofs.WholeFrame.{whole_frame_lem}
+use Rattle.rom.proofs.Walking.{come_cut, come_stop, come_on}
 use Rattle.rom.proofs.phrases.walk_from.Goals as goal
 
 pub returns-in_default : goal.returns-in_default

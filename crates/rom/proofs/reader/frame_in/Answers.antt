@@ -1,11 +1,5 @@
-use borrow.Author.Rules.{rules}
-use mathlib.Core.Path.{◌≡◌, ◌∙◌}
-use mathlib.Core.List.{List}
-use Prim.Native.Nat.{ℕ}
+use mathlib.Core.Path.{◌∙◌}
 use native.Mathlib.Omega.{arith}
-use Rattle.rom.specs.Frames.{bit_count}
-use Rattle.rom.specs.Reader.{head_at, decoded}
-use Rattle.rom.proofs.KindLaws.{kind_bits_most}
 use Rattle.rom.proofs.Decoding.{kind_decoded, kind_length, whole_is, cut_is}
 use Rattle.rom.proofs.reader.frame_in.Goals as goal
 

@@ -1,8 +1,5 @@
-use borrow.Author.Rules.{rules}
-use Prim.Native.Nat.{◌/◌}
 use native.Mathlib.Omega.{arith}
-use Rattle.rom.proofs.Checks.{in_image}
-use Rattle.rom.proofs.WholeFrame.{WholeFrame, whole_frame_lem}
+use Rattle.rom.proofs.WholeFrame.{whole_frame_lem}
 use Rattle.rom.proofs.Taking.{with_numbers, take_refused, take_cut, take_whole}
 use Rattle.rom.proofs.reader.frame_taken.Goals as goal
 

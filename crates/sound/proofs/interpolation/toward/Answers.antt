@@ -1,6 +1,5 @@
-use borrow.Author.Rules.{rules}
 use Prim.Native.Nat.{◌^◌}
-use Rattle.base.proofs.Range.{fits, read, sum, difference, quotient}
+use Rattle.base.proofs.Range.{read, sum, difference, quotient}
 use Rattle.sound.proofs.interpolation.toward.Goals as goal
 
 pub returns : goal.returns

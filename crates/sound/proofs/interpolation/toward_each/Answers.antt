@@ -1,12 +1,12 @@
 use borrow.Author.Rules.{rules}
 use mathlib.Core.Path.{◌≡◌, sym, ◌∙◌}
 use mathlib.Core.List.{zip_with}
-use Prim.Native.Nat.{◌-◌, ◌^◌, ◌≤◌}
+use Prim.Native.Nat.{◌^◌}
 use lib.Dec.{lit≤}
 use lib.IntN.{pos}
 use lib.ListN.{length}
-use Rattle.base.proofs.Filling.{Filled, fill_none, fill_more, fill_all}
-use Rattle.base.proofs.Range.{read, passed, wider, back}
+use Rattle.base.proofs.Filling.{fill_none, fill_more, fill_all}
+use Rattle.base.proofs.Range.{read, back}
 use Rattle.sound.specs.Interpolation.{toward_by}
 use Rattle.sound.proofs.Zipped.{zip_length, zip_element}
 use Rattle.sound.proofs.interpolation.toward_each.Goals as goal

@@ -1,4 +1,3 @@
-use borrow.Author.Rules.{rules}
 use Rattle.sound.specs.Noise.{tap_chain}
 use Rattle.sound.proofs.noise.new_bit.Goals as goal
 

@@ -1,5 +1,4 @@
 -- The filter's forward value, clamped, is an i16 as it is.
-use borrow.Author.Rules.{rules}
 use mir.Syntax.{w16}
 use Rattle.base.specs.Range.{Between}
 use Rattle.base.proofs.Range.{fits_at, read, read_at, product, back, clamped_between}

@@ -1,4 +1,3 @@
-use borrow.Author.Rules.{rules}
 use Rattle.control.proofs.Busy.{less_keeps_valid}
 use Rattle.speech.proofs.advance.advance.Goals as goal
 

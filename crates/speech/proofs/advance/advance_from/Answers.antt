@@ -1,4 +1,3 @@
-use borrow.Author.Rules.{rules}
 use mathlib.Core.Path.{sym, ◌∙◌}
 use Rattle.control.proofs.Ranges.{valid_ranges}
 use Rattle.speech.proofs.Boundaries.{advanced_boundary, advanced_within, advanced_silent}

@@ -1,7 +1,6 @@
-use borrow.Author.Rules.{rules}
 use native.Mathlib.Omega.{arith}
 use Rattle.control.proofs.Ranges.{valid_ranges}
-use Rattle.speech.proofs.Boundaries.{in_mode, external_fifo}
+use Rattle.speech.proofs.Boundaries.{external_fifo}
 use Rattle.speech.proofs.advance.boundary.Goals as goal
 
 pub from_rom-requires : goal.from_rom-requires

@@ -1,6 +1,4 @@
 use borrow.Author.Rules.{rules}
-use Prim.Native.Nat.{◌-◌, ◌≤◌}
-use lib.ListN.{length}
 use Rattle.trace_lines.proofs.lines.sum.Goals as goal
 
 pub overflow_add-total : goal.overflow_add-total

@@ -1,12 +1,10 @@
 use borrow.Author.Rules.{rules}
 use mathlib.Core.Path.{◌≡◌, sym, ◌∙◌}
-use mathlib.Core.List.{map}
-use Prim.Native.Nat.{◌-◌, ◌≤◌}
 use lib.IntN.{pos}
-use lib.ListN.{length, take, drop}
+use lib.ListN.{length}
 use Rattle.trace_script.specs.Script.{state_length}
 use Rattle.trace_state.specs.Numbers.{natural}
-use Rattle.base.proofs.Filling.{Filled, fill_none, fill_more, fill_all, part_length, part_element}
+use Rattle.base.proofs.Filling.{fill_none, fill_more, fill_all, part_length, part_element}
 use Rattle.trace_state.proofs.from_list.bytes_of.Goals as goal
 
 pub returns : goal.returns

@@ -1,17 +1,10 @@
-use borrow.Author.Rules.{rules}
-use mathlib.Core.Path.{◌≡◌, sym, ◌∙◌}
+use mathlib.Core.Path.{◌≡◌}
 use mathlib.Core.List.{map}
-use Prim.Native.Nat.{◌+◌, ◌-◌, ◌≤◌}
-use lib.IntN.{pos}
-use lib.ListN.{length, get_or, take, drop}
-use mir.Facts.{to_z-of_z}
-use mir.Syntax.{w64}
-use mir.Val.{SFits}
-use Rattle.base.proofs.Range.{back}
-use Rattle.filter.proofs.Elements.{each_fits}
+use Prim.Native.Nat.{◌-◌, ◌≤◌}
+use lib.ListN.{length, take, drop}
 use Rattle.trace_script.specs.Script.{state_length}
 use Rattle.trace_state.specs.Numbers.{short}
-use Rattle.base.proofs.Filling.{Filled, fill_none, fill_more, fill_all, part_length, part_element}
+use Rattle.base.proofs.Filling.{Filled}
 use Rattle.trace_state.proofs.from_list.shorts_of.Given as goal
 
 abbrev pub invariant-loop-i : goal.invariant-loop-i

@@ -1,4 +1,3 @@
-use borrow.Author.Rules.{rules}
 use Rattle.trace_state.specs.Fields.{chip_of}
 use Rattle.trace_state.proofs.from_list.state_of.Goals as goal
 

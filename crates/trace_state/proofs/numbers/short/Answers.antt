@@ -1,6 +1,6 @@
 use mir.Facts.{to_z-of_z}
 use Rattle.base.specs.Range.{Between, clamped}
-use Rattle.base.proofs.Range.{fits, read}
+use Rattle.base.proofs.Range.{read}
 use Rattle.trace_state.proofs.Signed.{short_between}
 use Rattle.trace_state.proofs.numbers.short.Goals as goal
 

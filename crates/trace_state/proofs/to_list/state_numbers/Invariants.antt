@@ -1,14 +1,9 @@
-use borrow.Author.Rules.{rules}
-use mathlib.Core.Path.{◌≡◌, sym}
+use mathlib.Core.Path.{◌≡◌}
 use Prim.Native.Nat.{◌-◌, ◌≤◌}
-use lib.IntN.{pos}
 use lib.ListN.{length}
 use Rattle.trace_script.specs.Script.{state_length}
 use Rattle.trace_state.specs.Fields.{state_numbers}
-use Rattle.trace_state.specs.Numbers.{wide}
-use Rattle.base.proofs.Signed.{returned}
-use Rattle.base.proofs.Filling.{Filled, fill_none, fill_more, fill_all}
-use Rattle.chip_numbers.proofs.Places.{state_length_lem}
+use Rattle.base.proofs.Filling.{Filled}
 use Rattle.trace_state.proofs.to_list.state_numbers.Given as goal
 
 abbrev pub invariant-loop-i : goal.invariant-loop-i

@@ -1,9 +1,6 @@
 use mathlib.Core.Path.{◌≡◌}
 use Prim.Native.Nat.{◌≤◌, ◌-◌}
-use borrow.Author.Rules.{rules}
-use Rattle.voice.specs.Layout.{entries}
 use Rattle.voice.specs.Check.{entries_valid}
-use Rattle.voice.proofs.Entries.{entries_suc}
 use Rattle.voice.proofs.checks.table_valid.Given as goal
 
 abbrev pub invariant-loop-i : goal.invariant-loop-i

@@ -1,8 +1,5 @@
-use borrow.Author.Rules.{rules}
-use mathlib.Core.Path.{sym, ◌∙◌}
 use Rattle.base.proofs.Faults.{none, applies, passes, first_is}
 use Rattle.voice.specs.Check.{voice_fault}
-use Rattle.voice.proofs.Tables.{tables_whole}
 use Rattle.voice.proofs.checks.voice_fault.Goals as goal
 
 pub returns-then-size_fault : goal.returns-then-size_fault

@@ -3,7 +3,7 @@ use native.Mathlib.Nat.{mod-le}
 use borrow.Author.Rules.{rules}
 use lib.IntN.{pos}
 use Rattle.base.specs.Range.{Between}
-use Rattle.base.proofs.Range.{signed, difference, fits, read}
+use Rattle.base.proofs.Range.{signed, difference, read}
 use Rattle.voice.specs.Layout.{twos_complement}
 use Rattle.voice.proofs.Signed.{sign_part}
 use Rattle.voice.proofs.layout.twos_complement.Goals as goal

@@ -1,6 +1,5 @@
 use borrow.Author.Rules.{rules}
 use Rattle.voice.specs.Layout.{k_counts}
-use Rattle.base.proofs.Range.{back}
 use Rattle.voice.proofs.Places.{total_take_le}
 use Rattle.voice.proofs.lookup.k.Goals as goal
 

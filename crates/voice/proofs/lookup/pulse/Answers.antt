@@ -1,4 +1,3 @@
-use borrow.Author.Rules.{rules}
 use Rattle.base.proofs.Range.{back}
 use Rattle.voice.proofs.Places.{pulse_within, pulse_past}
 use Rattle.voice.proofs.lookup.pulse.Goals as goal

@@ -1,4 +1,3 @@
-use borrow.Author.Rules.{rules}
 use Rattle.chip.proofs.BusCalls.{acknowledge_refused, acknowledge_taken}
 use Rattle.chip.proofs.state.Chip.acknowledge.Goals as goal
 

@@ -1,4 +1,3 @@
-use borrow.Author.Rules.{rules}
 use mathlib.Core.Path.{sym, ◌∙◌}
 use Rattle.base.proofs.Faults.{none, applies, passes, applies_not, passes_not}
 use Rattle.rom.proofs.Checks.{valid_length}
@@ -19,11 +18,10 @@ returns-then-waits c =
     search (command_fault_lem, applies, passes_not)
 
 pub beyond-requires : goal.beyond-requires
-beyond-requires c =
-    (
-      (valid_address _ (sym c.valid.ensures ∙ c.if-not-valid.false)).0,
-      (valid_length c.args.image.now (sym c.image_valid.ensures ∙ c.if-not-image_valid.false)).1,
-    )
+beyond-requires c = (
+  (valid_address _ (sym c.valid.ensures ∙ c.if-not-valid.false)).0,
+  (valid_length c.args.image.now (sym c.image_valid.ensures ∙ c.if-not-image_valid.false)).1,
+)
 
 pub returns-then-beyond : goal.returns-then-beyond
 returns-then-beyond c =

@@ -1,14 +1,11 @@
 use borrow.Author.Rules.{rules}
-use mathlib.Core.Path.{◌≡◌, ◌∙◌}
+use mathlib.Core.Path.{◌∙◌}
 use Prim.Native.Nat.{◌+◌, ◌-◌, ◌≤◌}
 use native.Mathlib.Omega.{arith}
 use borrow.Rule.Slice.PartMut.{mid_of, mid_len}
 use lib.ListN.{length}
-use Rattle.base.proofs.Steps.{Filled, filled_none, filled_more, filled_part, filled_all}
+use Rattle.base.proofs.Steps.{filled_more, filled_part}
 use Rattle.clock.specs.Counters.{left_of_interval}
-use Rattle.chip.specs.Types.{Chip}
-use Rattle.chip.specs.Step.{step_fault}
-use Rattle.chip.specs.Run.{sample_step}
 use Rattle.chip.proofs.Ranges.{valid_clock}
 use Rattle.chip.proofs.Stepping.{passed, sample_step_is}
 use Rattle.chip.proofs.KeptValid.{goes_on}

@@ -1,19 +1,10 @@
-use borrow.Author.Rules.{rules}
-use mathlib.Core.Path.{◌≡◌, ◌∙◌}
-use Prim.Native.Nat.{◌+◌, ◌-◌, ◌≤◌}
-use native.Mathlib.Omega.{arith}
-use borrow.Author.Tests.{not-true}
-use borrow.Rule.Slice.PartMut.{mid_of, mid_len}
+use mathlib.Core.Path.{◌≡◌}
+use Prim.Native.Nat.{◌-◌}
 use lib.ListN.{length}
-use Rattle.base.proofs.Steps.{Filled, filled_none, filled_more, filled_part, filled_all}
-use Rattle.clock.specs.Counters.{left_of_interval}
+use Rattle.base.proofs.Steps.{Filled}
 use Rattle.chip.specs.Types.{Chip}
 use Rattle.chip.specs.Step.{step_fault}
 use Rattle.chip.specs.Run.{sample_step}
-use Rattle.chip.proofs.Ranges.{valid_clock}
-use Rattle.chip.proofs.Stepping.{passed, sample_step_is}
-use Rattle.chip.proofs.KeptValid.{goes_on}
-use Rattle.chip.proofs.Playing.{left_few, silenced, played}
 use Rattle.chip.proofs.state.Chip.fill.Given as goal
 
 abbrev pub invariant-loop-i : goal.invariant-loop-i

@@ -1,4 +1,3 @@
-use borrow.Author.Rules.{rules}
 use Rattle.chip.proofs.BusCalls.{look_refused, look_taken}
 use Rattle.chip.proofs.state.Chip.look.Goals as goal
 

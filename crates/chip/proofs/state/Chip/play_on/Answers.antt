@@ -1,4 +1,3 @@
-use borrow.Author.Rules.{rules}
 use native.Mathlib.Omega.{arith}
 use Rattle.chip.proofs.Ranges.{chip_ranges, valid_clock}
 use Rattle.chip.proofs.state.Chip.play_on.Goals as goal

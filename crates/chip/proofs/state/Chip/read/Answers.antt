@@ -1,4 +1,3 @@
-use borrow.Author.Rules.{rules}
 use Rattle.chip.proofs.BusCalls.{read_is}
 use Rattle.chip.proofs.state.Chip.read.Goals as goal
 

@@ -1,4 +1,3 @@
-use borrow.Author.Rules.{rules}
 use Rattle.chip.proofs.Stepping.{run_refused, run_taken}
 use Rattle.chip.proofs.state.Chip.run.Goals as goal
 

@@ -1,4 +1,3 @@
-use borrow.Author.Rules.{rules}
 use mathlib.Core.Path.{◌≡◌, ap}
 use Rattle.reports.specs.Reports.{report_numbers}
 use Rattle.chip.specs.Types.{Stepped}

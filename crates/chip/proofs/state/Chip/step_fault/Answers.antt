@@ -1,4 +1,3 @@
-use borrow.Author.Rules.{rules}
 use Rattle.base.proofs.Faults.{none, applies_not, passes_not, applies_own, passes_own}
 use Rattle.chip.proofs.Stepping.{step_fault_lem}
 use Rattle.chip.proofs.state.Chip.step_fault.Goals as goal

@@ -1,4 +1,3 @@
-use borrow.Author.Rules.{rules}
 use Rattle.chip.specs.Validity.{valid}
 use Rattle.chip.proofs.state.Chip.valid.Goals as goal
 

@@ -1,4 +1,3 @@
-use borrow.Author.Rules.{rules}
 use mathlib.Core.Path.{◌≡◌, sym, ◌∙◌}
 use Rattle.control.proofs.Ranges.{control_in_ranges}
 use Rattle.chip.specs.Write.{write_fault}

@@ -1,4 +1,3 @@
-use borrow.Author.Rules.{rules}
 use Rattle.control.specs.Validity.{control_valid}
 use Rattle.control.proofs.state.Control.valid.Goals as goal
 

@@ -1,5 +1,5 @@
 -- Valid parameters are in the ranges that each interpolation asks.
-use Rattle.base.proofs.Range.{read, passed, wider, back}
+use Rattle.base.proofs.Range.{passed, wider}
 use Rattle.sound.proofs.Validity.{ParamsBetween, params_tested}
 use Rattle.sound.proofs.params.Params.toward.Goals as goal
 

@@ -1,4 +1,3 @@
-use borrow.Author.Rules.{rules}
 use Rattle.sound.specs.State.{at_rest}
 use Rattle.sound.proofs.state.Sound.is_at_rest.Goals as goal
 

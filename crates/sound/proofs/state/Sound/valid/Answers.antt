@@ -1,4 +1,3 @@
-use borrow.Author.Rules.{rules}
 use Rattle.sound.specs.State.{sound_valid}
 use Rattle.sound.proofs.state.Sound.valid.Goals as goal
 
