@@ -59,3 +59,11 @@ prove() {
         fail "$3 is not proved"
     }
 }
+
+# Proves and builds program $1, which users call $2, as target/bin/$1.
+build_program() {
+    can_build "$2"
+    prove "$1" run "$2"
+    # last, for its time tells that all is built
+    cp "$root/crates/$1/out/$1" "$root/target/bin/"
+}
