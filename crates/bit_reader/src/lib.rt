@@ -1,5 +1,5 @@
-// A reader that stays on a lent image and holds its bit position. A function over such a struct is thin, for its proof is written
-// by hand: the work is done by the functions of `rom::bits` and `rom::reader`.
+// A reader that stays on a lent image and holds its bit position. The work is done by the functions of `rom::bits` and
+// `rom::reader`.
 #![tactic(auto)]
 
 ghost use Rattle.std.specs.Prelude.{◌≡◌, ◌-◌, ◌≤◌, ◌<◌, ◌^◌, length};
@@ -56,8 +56,8 @@ pub fn next_frame<'s, 'a>(r: &'s mut Reader<'a>, pitch_bits: usize) -> FrameAnsw
     answer
 }
 
-// The head of the frame at bit `at`: its fields, read one after another by a reader made here, so that no caller's
-// proof is by hand.
+// The head of the frame at bit `at`: its fields, read one after another by a reader made here, so that its contract names no
+// reader.
 // It requires what `next_field` does at each of the three positions; the bound on the bit is that of `next_frame`.
 pub fn head_fields(image: &[u8], at: usize, pitch_bits: usize) -> Head
     requires { (pitch_bits ≤ 8) × (at < 2 ^ 32 - 64) }

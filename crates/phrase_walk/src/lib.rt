@@ -1,5 +1,5 @@
-// The phrase walk whole: its numbers together with the part of the image, in a struct that holds the part. Its functions are
-// thin, for their proofs are written by hand: the work is done by `rom::phrases` and `rates::walks`.
+// The phrase walk whole: its numbers together with the part of the image, in a struct that holds the part. The work is done by
+// `rom::phrases` and `rates::walks`.
 #![tactic(auto)]
 
 ghost use Rattle.std.specs.Prelude.{◌≡◌};
