@@ -22,7 +22,7 @@ use Rattle.chip.proofs.BusCalls.{found, look_keeps}
 use Rattle.chip.proofs.KeptValid.{write_keeps_valid, acknowledge_keeps_valid, read_keeps_valid, step_keeps_valid, run_keeps_valid}
 use Rattle.account.specs.Types.{Chip}
 use Rattle.account.specs.Entries.{Call, write, read, look, acknowledge, step, run, chip_after, last_chip, Entry, wrote, looked, step_entry, step_entries, run_entries, entries_of, history, Reading, next, byte_bits}
-use Rattle.account.specs.Order.{Goes, buffered, commanded, not_written, moved, not_stepped_lem, unmoved, InOrder, done, then}
+use Rattle.account.specs.Order.{Goes, buffered, commanded, not_written, moved, refused_step, unmoved, InOrder, done, then}
 use Rattle.account.specs.Laws.{reading_of}
 use Rattle.account.proofs.Bytes.{bytes_in}
 use Rattle.account.proofs.Steps.{fifo_moves}
@@ -66,7 +66,7 @@ told_step image voice c v = go (eqb (step_fault image voice c) 0) refl
   where
     go : (t : Bool) → eqb (step_fault image voice c) 0 ≡ t → Told (reading c) (queue c) (step_entry (step_of image voice c)) (step_of image voice c).chip
     go true t = let m = fifo_moves image c.control (valid_control c v) in rw t (record { goes = moved m.bits; reads = m.reading })
-    go false t = rw t (record { goes = not_stepped_lem (eqb-false _ _ t); reads = refl })
+    go false t = rw t (record { goes = refused_step (eqb-false _ _ t); reads = refl })
 
 -- ---- a look, an acknowledge and a read
 
@@ -104,7 +104,7 @@ module _ (image voice : List ℕ) where
     where
       go : (t : Bool) → eqb (step_fault image voice c) 0 ≡ t → From c (run_entries image voice n c (run_of image voice c n).refusal ++ es) left
       go true t = rw t (steps_in_order n c v es left (rw t at rest))
-      go false t = rw (t, t) (first {d = c} (record { goes = not_stepped_lem (eqb-false _ _ t); reads = refl }) (rw t at rest))
+      go false t = rw (t, t) (first {d = c} (record { goes = refused_step (eqb-false _ _ t); reads = refl }) (rw t at rest))
 
 call_in_order : (c : Chip) (x : Call) → valid c ≡ true → (es : List Entry) (left : List ℕ) → From (chip_after c x) es left
     → From c (entries_of c x ++ es) left

@@ -7,7 +7,7 @@ use Rattle.account.specs.Types.{Stop, Details, Report}
 use Rattle.account.specs.Entries.{Entry, stepped, Reading, next, byte_bits, frame_bits}
 use Rattle.account.specs.Order as order
 use Rattle.account.specs.Order.{FifoMove, Goes, InOrder}
-use Rattle.account.specs.Parts.{bits_in, bits_taken, Part, given, thrown, bits_of_parts, Leaves, writing, looking, nothing, frame, stop, out, from_rom_lem, done, then}
+use Rattle.account.specs.Parts.{bits_in, bits_taken, Part, given, thrown, bits_of_parts, Leaves, writing, looking, nothing, frame, stop, out, rom_step, done, then}
 use Rattle.account.specs.Theorems.{Apart, BitsApart}
 use Rattle.account.proofs.Theorems.{bits_in_order, not_taken}
 
@@ -34,14 +34,14 @@ step_apart {t} n (order.stop {d = d} lost on e z) =
       whole = append-nil _ ∙ e ∙ ap (λ (l : List ℕ). own ++ l) (sym (append-nil lost)) ∙ sym (append-nil (own ++ (lost ++ [])));
     }
 step_apart n (order.out {queue = q} on s z) = record { parts = given q ∷ []; told = out q on (sym s); whole = simp append-nil }
-step_apart n (order.from_rom_lem off z) = same (from_rom_lem off) refl
+step_apart n (order.rom_step off z) = same (rom_step off) refl
 
 entry_apart : {t : Reading} {q left : List ℕ} {e : Entry} → Goes t q e left → Apart-one t q e left
 entry_apart (order.buffered {queue = q} {b = b} on) = record { parts = []; told = writing; whole = rw on }
 entry_apart (order.commanded off) = same writing (rw off)
 entry_apart (order.not_written {t} {b = b} {n = n} h) = same writing (not_taken t.external n (byte_bits t b) [] h)
 entry_apart (order.moved m) = step_apart 0 m
-entry_apart (order.not_stepped_lem h) = same nothing refl
+entry_apart (order.refused_step h) = same nothing refl
 entry_apart order.unmoved = same looking refl
 
 parts_append : (ps qs : List Part) → bits_of_parts (ps ++ qs) ≡ bits_of_parts ps ++ bits_of_parts qs

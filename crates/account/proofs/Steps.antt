@@ -25,7 +25,7 @@ use Rattle.control.proofs.Ranges.{control_ranges, valid_fits}
 use Rattle.control.proofs.Busy.{less_keeps_valid}
 use Rattle.speech.specs.Advance.{frame_begun, fifo_out, from_rom, from_fifo, form_of, thrown_by, boundary_in, within, advanced_from}
 use Rattle.account.specs.Types.{Frame, Silence, Stop, Repeat, Unvoiced, Voiced, NoReport, Mode, Idle, Rom, Waiting, External, Control}
-use Rattle.account.specs.Order.{nothing, frame, stop, out, from_rom_lem}
+use Rattle.account.specs.Order.{nothing, frame, stop, out, rom_step}
 use Rattle.account.specs.Laws.{is_external, reading_in, reading_of, StepMoves, FifoMoves}
 use Rattle.account.proofs.Bytes.{held_none, in_mode}
 
@@ -47,9 +47,9 @@ module _ (image : List ℕ) (k : Control) (v : control_valid k ≡ true) where
     rom_moved (whole (q, f) next) = go (is_stop f) refl
       where
         go : (t : Bool) → is_stop f ≡ t → StepMoves (reading_in Rom k) (held_bits k.fifo) (frame_begun k (q, f) next k.fifo (rated q))
-        go true t = record { bits = rw (t, none) (from_rom_lem refl refl); reading = rw t }
-        go false t = record { bits = rw t (from_rom_lem refl refl); reading = rw t (in_mode k e) }
-    rom_moved (cut h) = record { bits = from_rom_lem refl refl; reading = refl }
+        go true t = record { bits = rw (t, none) (rom_step refl refl); reading = rw t }
+        go false t = record { bits = rw t (rom_step refl refl); reading = rw t (in_mode k e) }
+    rom_moved (cut h) = record { bits = rom_step refl refl; reading = refl }
 
   -- ---- from the FIFO
 

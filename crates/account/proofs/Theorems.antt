@@ -18,7 +18,7 @@ use Rattle.chip.specs.Validity.{valid}
 use Rattle.chip.proofs.Ranges.{chip_ranges}
 use Rattle.account.specs.Types.{Stop, BitOrder, Details, Report, Device}
 use Rattle.account.specs.Entries.{last_chip, Entry, Reading, byte_bits, frame_bits}
-use Rattle.account.specs.Order.{FifoMove, nothing, frame, stop, out, from_rom_lem, Goes, buffered, commanded, not_written, moved, not_stepped_lem, unmoved, InOrder, done, then}
+use Rattle.account.specs.Order.{FifoMove, nothing, frame, stop, out, rom_step, Goes, buffered, commanded, not_written, moved, refused_step, unmoved, InOrder, done, then}
 use Rattle.account.specs.Counts.{taken_by, given_by, given_in, thrown_by, bytes_taken, bits_given, bits_thrown}
 use Rattle.account.specs.Theorems.{BitsInOrder, Balance, BitsAccounted}
 use Rattle.account.proofs.Calls.{calls_in_order}
@@ -42,7 +42,7 @@ step_balance {t} (nothing z) = omega (arith, none t.external)
 step_balance {t} (frame {left = left} {f = f} {d = d} on e z) = rw on (omega (arith, ap length e ∙ length-append (frame_bits t d f) left))
 step_balance {t} (stop {d = d} lost on e z) = rw on (omega (arith, ap length e ∙ length-append (frame_bits t d Stop) lost))
 step_balance (out on s z) = rw on (omega arith)
-step_balance (from_rom_lem off z) = rw off (omega arith)
+step_balance (rom_step off z) = rw off (omega arith)
 
 -- a refused byte does not count as a taken one
 pub not_taken : {A : Type 0} (t : Bool) (n : ℕ) (x y : A) → (n ≡ 0 → ⊥) → cond (t && eqb n 0) x y ≡ y
@@ -57,7 +57,7 @@ entry_balance (buffered {t} {queue} {b} on) = rw on (omega (arith, length-append
 entry_balance (commanded off) = rw off (omega arith)
 entry_balance (not_written {t} {n = n} h) = omega (arith, not_taken {A = ℕ} t.external n 1 0 h)
 entry_balance (moved m) = omega (arith, step_balance m)
-entry_balance (not_stepped_lem {t} h) = omega (arith, none t.external)
+entry_balance (refused_step {t} h) = omega (arith, none t.external)
 entry_balance unmoved = omega arith
 
 balanced : {t : Reading} {q left : List ℕ} {es : List Entry} → InOrder t q es left → 8 * bytes_taken t es + length q ≡ bits_given t es + bits_thrown es + length left

@@ -19,7 +19,7 @@ pub data FifoMove (t : Reading) : List ℕ → Report → Details → List ℕ �
   -- running out uses them up
   out : {queue : List ℕ} {d : Details} → t.external ≡ true → d.used_up ≡ length queue → d.thrown ≡ 0 → FifoMove t queue RanOut d []
   -- outside the external modes nothing is taken and nothing thrown away
-  from_rom_lem : {queue : List ℕ} {r : Report} {d : Details} → t.external ≡ false → d.thrown ≡ 0 → FifoMove t queue r d queue
+  rom_step : {queue : List ℕ} {r : Report} {d : Details} → t.external ≡ false → d.thrown ≡ 0 → FifoMove t queue r d queue
 
 -- what an entry does to the bits waiting
 pub data Goes : Reading → List ℕ → Entry → List ℕ → Type 0 where
@@ -32,7 +32,7 @@ pub data Goes : Reading → List ℕ → Entry → List ℕ → Type 0 where
   -- a taken step
   moved : {t : Reading} {queue left : List ℕ} {r : Report} {d : Details} → FifoMove t queue r d left → Goes t queue (stepped TAKEN r d) left
   -- a refused one reports nothing
-  not_stepped_lem : {t : Reading} {queue : List ℕ} {n : ℕ} → (n ≡ TAKEN → ⊥) → Goes t queue (stepped n NoReport no_details) queue
+  refused_step : {t : Reading} {queue : List ℕ} {n : ℕ} → (n ≡ TAKEN → ⊥) → Goes t queue (stepped n NoReport no_details) queue
   -- a read or an acknowledge
   unmoved : {t : Reading} {queue : List ℕ} → Goes t queue looked queue
 

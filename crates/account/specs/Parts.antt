@@ -45,7 +45,7 @@ pub data Leaves : Reading → Entry → List Part → Type 0 where
   out : {t : Reading} {n : ℕ} {d : Details} (l : List ℕ) → t.external ≡ true → length l ≡ d.used_up
       → Leaves t (stepped n RanOut d) (given l ∷ [])
   -- a step that speaks from ROM: none
-  from_rom_lem : {t : Reading} {n : ℕ} {r : Report} {d : Details} → t.external ≡ false → Leaves t (stepped n r d) []
+  rom_step : {t : Reading} {n : ℕ} {r : Report} {d : Details} → t.external ≡ false → Leaves t (stepped n r d) []
 
 -- the parts that leave with the entries of a history, in order
 pub data LeavesAll : Reading → List Entry → List Part → Type 0 where

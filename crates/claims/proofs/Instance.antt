@@ -133,11 +133,11 @@ module _ (image : List ℕ) (a : ℕ) (i : image_valid image ≡ true) (inside :
     (s : SpeakByte) where
   spoke : write_of image c s.byte ≡ record { chip = after_byte c (obeyed image c.control s.byte Speak); refusal = 0 }
   spoke =
-      obeys image c s.byte Speak i ready.is_valid ready.is_idle_lem ready.not_busy s.speak
+      obeys image c s.byte Speak i ready.is_valid ready.idle_mode ready.not_busy s.speak
       (rw (le-leb (c.control.address.position + 1) (8 * length image) (omega (arith, ready.at_byte))))
 
   empty : c.control.fifo.level ≡ 0
-  empty = let f = (mode_ranges c.control.mode c.control.fifo (chip_ranges c ready.is_valid).control.fifo).at_most in let m : c.control.fifo.level ≤ 0 = rw ready.is_idle_lem at f in omega arith
+  empty = let f = (mode_ranges c.control.mode c.control.fifo (chip_ranges c ready.is_valid).control.fifo).at_most in let m : c.control.fifo.level ≤ 0 = rw ready.idle_mode at f in omega arith
 
   -- the chip that has taken it
   abbrev pub speaking_chip : Chip

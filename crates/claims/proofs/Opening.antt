@@ -154,8 +154,8 @@ opening image a i inside d v q ls ms rs ts l = (taken_numbers all, subst (Ready 
     ready : Ready (rate_of (device_after d (ls ++ ms))) a (placed q (device_after set ms) (8 * a) 0)
     ready = record {
       is_valid = placed_valid q (device_after set ms) (8 * a) 0 (after_valid set ms set_valid) (omega (arith, small)) (omega arith);
-      is_idle_lem = refl;
-      no_data_lem = refl;
+      idle_mode = refl;
+      nothing_pending = refl;
       not_busy = refl;
       at_byte = refl;
       at_rate = ap rate_of (sym (after_both d ls ms));

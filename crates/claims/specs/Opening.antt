@@ -40,8 +40,8 @@ opening_bytes ls l ms = ls ++ (load_bytes l ++ ms)
 -- byte's first bit
 pub record Ready (r : FrameRate) (a : ℕ) (c : Chip) : Type 0 where
   pub is_valid : valid c ≡ true
-  pub is_idle_lem : c.control.mode ≡ Idle
-  pub no_data_lem : c.control.port.pending ≡ false
+  pub idle_mode : c.control.mode ≡ Idle
+  pub nothing_pending : c.control.port.pending ≡ false
   pub not_busy : c.control.port.busy.0 ≡ 0
   pub at_byte : c.control.address.position ≡ 8 * a
   pub at_rate : rate_of c.control.device ≡ r

@@ -190,7 +190,7 @@ numbered F keeps js e =
     record {
       frame = λ i ks. told_past F keeps 1 js (i ∷ ks) e ∙ told_due_lem F n n i ks refl;
       stop = λ i ks k. end_past F 1 js (i ∷ ks) e ∙ end_stop F n i ks k;
-      runs_out_lem = rw append-nil at (told_past F keeps 1 js [] e) ∙ told_out F n n refl;
+      out = rw append-nil at (told_past F keeps 1 js [] e) ∙ told_out F n n refl;
       end = rw append-nil at (end_past F 1 js [] e);
     }
 

@@ -78,7 +78,7 @@ module _ (F : Form) where
   pub record DueAfter (js : List Item) : Type 0 where
     pub frame : (i : Item) (ks : List Item) → told_at (js ++ (i ∷ ks)) (1 + total_samples js) ≡ tells_rated i.0 (due_report i.1)
     pub stop : (i : Item) (ks : List Item) → is_stop i.1 ≡ true → end_step (js ++ (i ∷ ks)) ≡ 1 + total_samples js
-    pub runs_out_lem : told_at js (1 + total_samples js) ≡ tells RanOut
+    pub out : told_at js (1 + total_samples js) ≡ tells RanOut
     pub end : end_step js ≡ 1 + total_samples js
 
 -- for all items of which none is a stop

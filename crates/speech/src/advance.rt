@@ -54,7 +54,9 @@ fn change(control: Control, mode: Mode, position: usize, fifo: Fifo, clock: Cloc
         .with_clock(clock)
 }
 
-// The control after a frame with these rate bits, the position and the FIFO moved on, and what the step gives besides.
+// The control after a frame with these rate bits, the position and the FIFO moved on, and what the step gives besides. As a call of its own
+// it costs a step 700 bytes of stack, for what is passed by value.
+#[inline(always)]
 fn begin_frame(
     control: Control,
     bits: u8,
