@@ -71,7 +71,7 @@ fn list(rt: &HostRuntime, asked: Asked) -> io::Result<()>
     }
 }
 
-// What the first argument asks for. One that is longer than the buffer reads as empty, which is no number.
+// What the first argument asks for. One that is longer than the buffer, 4,096 bytes, reads as empty, which is no number.
 fn argument(rt: &HostRuntime) -> Asked
     ensures { result.most ≤ image_limit }
 {

@@ -1,3 +1,4 @@
+-- The bytes passed are 0.
 use mathlib.Core.Path.{◌≡◌}
 use Prim.Native.Nat.{◌-◌}
 use lib.ListN.{drop, length}

@@ -1,3 +1,4 @@
+-- Each turn overwrites one place.
 use mathlib.Core.Path.{◌≡◌}
 use mathlib.Core.List.{map}
 use Prim.Native.Nat.{◌-◌, ◌≤◌}

@@ -1,3 +1,4 @@
+-- The bytes passed are moved.
 use mathlib.Core.Path.{◌≡◌}
 use Prim.Native.Nat.{◌≤◌, ◌-◌}
 use lib.ListN.{length}

@@ -1,3 +1,4 @@
+-- The buffer holds i samples of silence.
 use Prim.Native.Nat.{◌-◌}
 use lib.IntN.{ℤ, pos}
 use lib.ListN.{length}

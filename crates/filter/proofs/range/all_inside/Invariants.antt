@@ -1,3 +1,4 @@
+-- All are inside if those passed are and those left are.
 use mathlib.Core.Path.{◌≡◌}
 use mathlib.Core.Bool.{◌&&◌}
 use Prim.Native.Nat.{◌-◌, ◌≤◌}

@@ -1,3 +1,4 @@
+-- What is read and the rest give the address.
 use Prim.Native.Nat.{◌-◌}
 use lib.ListN.{length}
 use Rattle.lister.proofs.AddressLaws.{Reading}

@@ -5,30 +5,35 @@ use Rattle.rates.proofs.walks.walk_from.Goals as goal
 
 pub returns-in_default : goal.returns-in_default
 returns-in_default c =
+    let read = c.frame_in-answer.ensures _ (c.head_of-head.ensures _ _ c.narrow_at.ensures) c.wide_at.ensures refl in
     c.refuse_cut.ensures
     ∙ rw c.shortfall.ensures
-    (come_cut c.args.rate c.loop-frame.invariant.1 c.loop-frame.invariant.0.0 c.field_at-bits.ensures ((c.frame_in-answer.ensures _ (c.head_of-head.ensures _ _ c.narrow_at.ensures) c.wide_at.ensures refl))
+    (come_cut c.args.rate c.loop-frame.invariant.1 c.loop-frame.invariant.0.0 c.field_at-bits.ensures read
     c.in_default.is)
 
 pub overflow_sub-at : goal.overflow_sub-at
 overflow_sub-at c =
-    omega (arith, (further c.args.rate c.loop-frame.invariant.1 c.loop-frame.invariant.0.0 c.field_at-bits.ensures ((c.frame_in-answer.ensures _ (c.head_of-head.ensures _ _ c.narrow_at.ensures) c.wide_at.ensures refl)) c.in-Whole.is), c.loop-frame.invariant.1.passed)
+    let read = c.frame_in-answer.ensures _ (c.head_of-head.ensures _ _ c.narrow_at.ensures) c.wide_at.ensures refl in
+    omega (arith, (further c.args.rate c.loop-frame.invariant.1 c.loop-frame.invariant.0.0 c.field_at-bits.ensures read c.in-Whole.is), c.loop-frame.invariant.1.passed)
 
 pub returns-then-is_stop : goal.returns-then-is_stop
 returns-then-is_stop c =
+    let read = c.frame_in-answer.ensures _ (c.head_of-head.ensures _ _ c.narrow_at.ensures) c.wide_at.ensures refl in
     c.accept.ensures
     ∙ rw c.kept_by-kept.ensures
-    (come_stop c.args.rate c.loop-frame.invariant.1 c.loop-frame.invariant.0.0 c.field_at-bits.ensures ((c.frame_in-answer.ensures _ (c.head_of-head.ensures _ _ c.narrow_at.ensures) c.wide_at.ensures refl))
+    (come_stop c.args.rate c.loop-frame.invariant.1 c.loop-frame.invariant.0.0 c.field_at-bits.ensures read
     c.in-Whole.is (sym c.is_stop.ensures ∙ c.if-is_stop.true))
 
 pub loop-frame-smaller : goal.loop-frame-smaller
 loop-frame-smaller c =
-    omega (arith, (further c.args.rate c.loop-frame.invariant.1 c.loop-frame.invariant.0.0 c.field_at-bits.ensures ((c.frame_in-answer.ensures _ (c.head_of-head.ensures _ _ c.narrow_at.ensures) c.wide_at.ensures refl)) c.in-Whole.is))
+    let read = c.frame_in-answer.ensures _ (c.head_of-head.ensures _ _ c.narrow_at.ensures) c.wide_at.ensures refl in
+    omega (arith, (further c.args.rate c.loop-frame.invariant.1 c.loop-frame.invariant.0.0 c.field_at-bits.ensures read c.in-Whole.is))
 
 pub loop-frame-preserved : goal.loop-frame-preserved
-loop-frame-preserved c = (
-  (c.loop-frame.invariant.0.0, rw c.kept_by-kept.ensures (omega arith)),
-  rw c.kept_by-kept.ensures
-      (come_on c.args.rate c.loop-frame.invariant.1 c.loop-frame.invariant.0.0 c.field_at-bits.ensures ((c.frame_in-answer.ensures _ (c.head_of-head.ensures _ _ c.narrow_at.ensures) c.wide_at.ensures refl))
-      c.in-Whole.is (sym c.is_stop.ensures ∙ c.if-is_stop.false)),
-)
+loop-frame-preserved c =
+    let read = c.frame_in-answer.ensures _ (c.head_of-head.ensures _ _ c.narrow_at.ensures) c.wide_at.ensures refl in (
+      (c.loop-frame.invariant.0.0, rw c.kept_by-kept.ensures (omega arith)),
+      rw c.kept_by-kept.ensures
+          (come_on c.args.rate c.loop-frame.invariant.1 c.loop-frame.invariant.0.0 c.field_at-bits.ensures read
+          c.in-Whole.is (sym c.is_stop.ensures ∙ c.if-is_stop.false)),
+    )

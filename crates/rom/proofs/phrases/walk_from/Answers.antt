@@ -6,22 +6,27 @@ use Rattle.rom.proofs.phrases.walk_from.Goals as goal
 
 pub returns-in_default : goal.returns-in_default
 returns-in_default c =
+    let read = c.frame_in-answer.ensures _ (c.head_of-head.ensures _ _ c.narrow_at.ensures) c.wide_at.ensures refl in
     c.refuse_cut.ensures
-    ∙ rw c.shortfall.ensures (come_cut c.loop-frame.invariant ((c.frame_in-answer.ensures _ (c.head_of-head.ensures _ _ c.narrow_at.ensures) c.wide_at.ensures refl)) c.in_default.is)
+    ∙ rw c.shortfall.ensures (come_cut c.loop-frame.invariant read c.in_default.is)
 
 pub overflow_sub-at : goal.overflow_sub-at
 overflow_sub-at c =
-    omega (arith, (whole_frame_lem _ _ _ _ ((c.frame_in-answer.ensures _ (c.head_of-head.ensures _ _ c.narrow_at.ensures) c.wide_at.ensures refl)) c.in-Whole.is))
+    let read = c.frame_in-answer.ensures _ (c.head_of-head.ensures _ _ c.narrow_at.ensures) c.wide_at.ensures refl in
+    omega (arith, (whole_frame_lem _ _ _ _ read c.in-Whole.is))
 
 pub returns-then-is_stop : goal.returns-then-is_stop
 returns-then-is_stop c =
+    let read = c.frame_in-answer.ensures _ (c.head_of-head.ensures _ _ c.narrow_at.ensures) c.wide_at.ensures refl in
     c.accept.ensures
-    ∙ come_stop c.loop-frame.invariant ((c.frame_in-answer.ensures _ (c.head_of-head.ensures _ _ c.narrow_at.ensures) c.wide_at.ensures refl)) c.in-Whole.is (sym c.is_stop.ensures ∙ c.if-is_stop.true)
+    ∙ come_stop c.loop-frame.invariant read c.in-Whole.is (sym c.is_stop.ensures ∙ c.if-is_stop.true)
 
 pub loop-frame-smaller : goal.loop-frame-smaller
 loop-frame-smaller c =
-    omega (arith, (whole_frame_lem _ _ _ _ ((c.frame_in-answer.ensures _ (c.head_of-head.ensures _ _ c.narrow_at.ensures) c.wide_at.ensures refl)) c.in-Whole.is))
+    let read = c.frame_in-answer.ensures _ (c.head_of-head.ensures _ _ c.narrow_at.ensures) c.wide_at.ensures refl in
+    omega (arith, (whole_frame_lem _ _ _ _ read c.in-Whole.is))
 
 pub loop-frame-preserved : goal.loop-frame-preserved
 loop-frame-preserved c =
-    come_on c.loop-frame.invariant ((c.frame_in-answer.ensures _ (c.head_of-head.ensures _ _ c.narrow_at.ensures) c.wide_at.ensures refl)) c.in-Whole.is (sym c.is_stop.ensures ∙ c.if-is_stop.false)
+    let read = c.frame_in-answer.ensures _ (c.head_of-head.ensures _ _ c.narrow_at.ensures) c.wide_at.ensures refl in
+    come_on c.loop-frame.invariant read c.in-Whole.is (sym c.is_stop.ensures ∙ c.if-is_stop.false)

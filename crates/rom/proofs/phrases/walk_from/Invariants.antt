@@ -1,3 +1,4 @@
+-- What is left of the image's bits.
 use Prim.Native.Nat.{◌*◌, ◌-◌}
 use lib.ListN.{length}
 use Rattle.rom.proofs.Walking.{Come}

@@ -5,13 +5,15 @@ use Rattle.rom.proofs.reader.frame_taken.Goals as goal
 
 pub returns-then-fault-ne-TAKEN : goal.returns-then-fault-ne-TAKEN
 returns-then-fault-ne-TAKEN c =
-    let both = let r = rw c.none.ensures at c.no_frame.ensures in
-    with_numbers (take_refused 6 c.args.image.now c.args.bit c.image_fault-fault.ensures r c.if-fault-ne-TAKEN.true) in record { value = both.0; frame_numbers = both.1 }
+    let r = rw c.none.ensures at c.no_frame.ensures in
+    let both = with_numbers (take_refused 6 c.args.image.now c.args.bit c.image_fault-fault.ensures r c.if-fault-ne-TAKEN.true) in
+    record { value = both.0; frame_numbers = both.1 }
 
 pub returns-in_default : goal.returns-in_default
 returns-in_default c =
-    let both = let r = rw c.shortfall.ensures at c.no_frame-in_default.ensures in
-    with_numbers (take_cut _ _ _ c.image_fault-fault.ensures c.if-fault-ne-TAKEN.false c.frame_at-answer.ensures c.in_default.is r) in record { value = both.0; frame_numbers = both.1 }
+    let r = rw c.shortfall.ensures at c.no_frame-in_default.ensures in
+    let both = with_numbers (take_cut _ _ _ c.image_fault-fault.ensures c.if-fault-ne-TAKEN.false c.frame_at-answer.ensures c.in_default.is r) in
+    record { value = both.0; frame_numbers = both.1 }
 
 pub overflow_sub-result : goal.overflow_sub-result
 overflow_sub-result c =
@@ -22,4 +24,5 @@ returns c =
     let both = with_numbers
     (rw c.none-2.ensures
     (take_whole _ _ _ c.image_fault-fault.ensures c.if-fault-ne-TAKEN.false c.frame_at-answer.ensures c.in-Whole.is
-    (omega (arith, (whole_frame_lem _ _ _ _ c.frame_at-answer.ensures c.in-Whole.is))))) in record { value = both.0; frame_numbers = both.1 }
+    (omega (arith, (whole_frame_lem _ _ _ _ c.frame_at-answer.ensures c.in-Whole.is))))) in
+    record { value = both.0; frame_numbers = both.1 }

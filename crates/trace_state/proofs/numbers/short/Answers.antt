@@ -17,4 +17,7 @@ returns-then-z-gt32767 c =
 pub returns-else-z-gt32767 : goal.returns-else-z-gt32767
 unfolding clamped
 returns-else-z-gt32767 c =
-    simp (to_z-of_z, c.ranges.z, read tt ((let between : Between 32768 32767 c.args.z = short_between _ (simp (to_z-of_z, c.ranges.z) at c.if-z-ltminus32768.false) (simp (to_z-of_z, c.ranges.z) at c.if-z-gt32767.false) in between)), simp (to_z-of_z, c.ranges.z) at c.if-z-ltminus32768.false, simp (to_z-of_z, c.ranges.z) at c.if-z-gt32767.false)
+    let low = simp (to_z-of_z, c.ranges.z) at c.if-z-ltminus32768.false in
+    let high = simp (to_z-of_z, c.ranges.z) at c.if-z-gt32767.false in
+    let between : Between 32768 32767 c.args.z = short_between _ low high in
+    simp (to_z-of_z, c.ranges.z, read tt between, low, high)

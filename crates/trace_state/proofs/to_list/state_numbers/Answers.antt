@@ -14,6 +14,6 @@ returns c =
 
 pub loop-i-init : goal.loop-i-init
 loop-i-init c =
-    let n = (let all_there : length (state_numbers c.args.chip) ≡ state_length = state_length_lem wide c.args.chip (search rules) (search (rules, c.well_formed.0.1.1.1.0)) (search (rules, c.well_formed.0.1.1.1.0))
-    (search (rules, c.well_formed.0.1.1.1.0)) in all_there) in
+    let n : length (state_numbers c.args.chip) ≡ state_length =
+    state_length_lem wide c.args.chip (search rules) (search (rules, c.well_formed.0.1.1.1.0)) (search (rules, c.well_formed.0.1.1.1.0)) (search (rules, c.well_formed.0.1.1.1.0)) in
     (search rules, n, fill_none (sym n))

@@ -11,4 +11,6 @@ use Rattle.voice.proofs.layout.twos_complement.Goals as goal
 pub returns : goal.returns
 unfolding twos_complement
 returns c =
-    simp (read tt ((let low_part : Between 0 65535 (pos (c.args.n % c.args.sign)) = signed (search (rules, mod-le c.args.n c.args.sign)) in low_part)), read tt ((let high_part : Between 0 65535 (pos (c.args.n / c.args.sign % 2 * c.args.sign)) = signed (search (rules, sign_part c.args.sign c.args.n)) in high_part)), read tt (difference ((let low_part : Between 0 65535 (pos (c.args.n % c.args.sign)) = signed (search (rules, mod-le c.args.n c.args.sign)) in low_part)) ((let high_part : Between 0 65535 (pos (c.args.n / c.args.sign % 2 * c.args.sign)) = signed (search (rules, sign_part c.args.sign c.args.n)) in high_part))))
+    let low : Between 0 65535 (pos (c.args.n % c.args.sign)) = signed (search (rules, mod-le c.args.n c.args.sign)) in
+    let high : Between 0 65535 (pos (c.args.n / c.args.sign % 2 * c.args.sign)) = signed (search (rules, sign_part c.args.sign c.args.n)) in
+    simp (read tt low, read tt high, read tt (difference low high))

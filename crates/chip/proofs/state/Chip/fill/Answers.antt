@@ -1,6 +1,7 @@
+-- A step, what is left of an interval, or all that is left in silence: the buffer holds the samples of i steps, and the next has no fault.
 use borrow.Author.Rules.{rules}
-use mathlib.Core.Path.{◌∙◌}
-use Prim.Native.Nat.{◌+◌, ◌-◌, ◌≤◌}
+use mathlib.Core.Path.{◌≡◌, ◌∙◌}
+use Prim.Native.Nat.{ℕ, ◌+◌, ◌-◌, ◌≤◌, ◌<◌, min}
 use native.Mathlib.Omega.{arith}
 use borrow.Rule.Slice.PartMut.{mid_of, mid_len}
 use lib.ListN.{length}
@@ -11,6 +12,11 @@ use Rattle.chip.proofs.Stepping.{passed, sample_step_is}
 use Rattle.chip.proofs.KeptValid.{goes_on}
 use Rattle.chip.proofs.Playing.{left_few, silenced, played}
 use Rattle.chip.proofs.state.Chip.fill.Goals as goal
+
+-- what is played at once is a sample or more, within the interval and within the buffer
+part : {whole left taken i n : ℕ} → left ≡ whole → (left ≡ 0 → ⊥) → taken ≡ min left (n - i) → i < n
+    → (1 ≤ whole) × (taken ≤ whole) × (1 ≤ taken) × (i + taken ≤ n)
+part e some t h = omega arith
 
 pub samples_left-left-requires : goal.samples_left-left-requires
 samples_left-left-requires c =
@@ -29,13 +35,13 @@ loop-i-preserved-then-left-eq0 c =
 
 pub play_on-next-requires : goal.play_on-next-requires
 play_on-next-requires c =
-    let b = (let part : (1 ≤ left_of_interval c.loop-i.chip.control.clock) × (c.smaller.result ≤ left_of_interval c.loop-i.chip.control.clock) × (1 ≤ c.smaller.result) × (c.loop-i.i + c.smaller.result ≤ length c.loop-i.out) = omega (arith, c.samples_left-left.ensures, c.if-left-eq0.false, c.smaller.ensures, c.loop-i-test.true) in part) in
+    let b = part c.samples_left-left.ensures c.if-left-eq0.false c.smaller.ensures c.loop-i-test.true in
     let k = mid_len c.loop-i.i (c.loop-i.i + c.smaller.result) c.loop-i.out b.3 in
     ((passed _ _ c.loop-i.chip c.loop-i.invariant.holds).chip_valid, omega (arith, k, b, left_few c.loop-i.chip.control.clock))
 
 pub loop-i-preserved : goal.loop-i-preserved
 loop-i-preserved c =
-    let b = (let part : (1 ≤ left_of_interval c.loop-i.chip.control.clock) × (c.smaller.result ≤ left_of_interval c.loop-i.chip.control.clock) × (1 ≤ c.smaller.result) × (c.loop-i.i + c.smaller.result ≤ length c.loop-i.out) = omega (arith, c.samples_left-left.ensures, c.if-left-eq0.false, c.smaller.ensures, c.loop-i-test.true) in part) in
+    let b = part c.samples_left-left.ensures c.if-left-eq0.false c.smaller.ensures c.loop-i-test.true in
     let e = c.loop-i.i + c.smaller.result in
     let k = mid_len c.loop-i.i e c.loop-i.out b.3 in
     let p = played c.args.image.now c.args.voice.now (length (mid_of c.loop-i.i (e - c.loop-i.i) c.loop-i.out)) c.loop-i.chip c.loop-i.invariant.holds b.0 (omega (arith, k, b)) in

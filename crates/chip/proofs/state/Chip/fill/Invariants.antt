@@ -1,3 +1,4 @@
+-- The buffer holds the samples of i steps, and the next has no fault.
 use mathlib.Core.Path.{◌≡◌}
 use Prim.Native.Nat.{◌-◌}
 use lib.ListN.{length}

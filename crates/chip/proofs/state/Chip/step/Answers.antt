@@ -10,8 +10,10 @@ in_numbers e = (e, ap (λ (r : Stepped). report_numbers r.report) e)
 
 pub returns-then-fault-ne-TAKEN : goal.returns-then-fault-ne-TAKEN
 returns-then-fault-ne-TAKEN c =
-    let both = in_numbers (rw c.none.ensures (step_refused _ _ _ c.step_fault-fault.ensures c.if-fault-ne-TAKEN.true)) in record { value = both.0; in_numbers = both.1 }
+    let both = in_numbers (rw c.none.ensures (step_refused _ _ _ c.step_fault-fault.ensures c.if-fault-ne-TAKEN.true)) in
+    record { value = both.0; in_numbers = both.1 }
 
 pub returns : goal.returns
 returns c =
-    let both = in_numbers (step_taken_lem _ _ _ c.step_fault-fault.ensures c.if-fault-ne-TAKEN.false c.take_step.ensures) in record { value = both.0; in_numbers = both.1 }
+    let both = in_numbers (step_taken_lem _ _ _ c.step_fault-fault.ensures c.if-fault-ne-TAKEN.false c.take_step.ensures) in
+    record { value = both.0; in_numbers = both.1 }

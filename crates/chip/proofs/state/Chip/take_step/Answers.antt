@@ -10,12 +10,12 @@ use Rattle.chip.proofs.state.Chip.take_step.Goals as goal
 
 pub advance-moved-requires : goal.advance-moved-requires
 advance-moved-requires c =
-    let p = (let found : Passed c.args.image.now c.args.voice.now c.args.self = passed _ _ _ c.requires in found) in
+    let p : Passed c.args.image.now c.args.voice.now c.args.self = passed _ _ _ c.requires in
     ((valid_length c.args.image.now p.image_valid_lem).1, omega arith, control_in_ranges _ (chip_ranges _ p.chip_valid).control)
 
 pub apply-sampled-requires : goal.apply-sampled-requires
 apply-sampled-requires c =
-    let p = (let found : Passed c.args.image.now c.args.voice.now c.args.self = passed _ _ _ c.requires in found) in
+    let p : Passed c.args.image.now c.args.voice.now c.args.self = passed _ _ _ c.requires in
     (omega arith, (version, p.voice_valid), rw c.advance-moved.ensures (kept _ _ _ p).playable, (chip_ranges _ p.chip_valid).sound)
 
 pub returns : goal.returns

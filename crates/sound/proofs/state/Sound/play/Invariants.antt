@@ -1,3 +1,4 @@
+-- The sound with memory, noise and pulse place renewed is the one after i samples, and the buffer has these.
 use Prim.Native.Nat.{◌-◌}
 use lib.ListN.{length}
 use Rattle.base.proofs.Steps.{Filled}
