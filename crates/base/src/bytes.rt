@@ -6,5 +6,5 @@ ghost use Rattle.base.specs.Bytes.{byte_at};
 pub fn byte_at(s: &[u8], i: usize) -> u8
     ensures { result ≡ byte_at s.now i }
 {
-    if i < s.len() { s[i] } else { 0 }
+    s.get(i).copied().unwrap_or(0)
 }

@@ -4,13 +4,15 @@
 ghost use Rattle.std.specs.Prelude.{◌≡◌, ◌+◌, ◌^◌, ◌≤◌, ◌<◌};
 ghost use Rattle.base.specs.Units.{frames, intervals, samples, intervals_of, samples_of, whole_intervals, within_interval, within_frame, samples_sum, samples_less, intervals_sum};
 
-#[derive(Clone, Copy)]
+use std::ops::Add;
+
+#[derive(Clone, Copy, Debug, PartialEq, Eq, PartialOrd, Ord)]
 pub struct Frames(u32);
 
-#[derive(Clone, Copy)]
+#[derive(Clone, Copy, Debug, PartialEq, Eq, PartialOrd, Ord)]
 pub struct Intervals(u64);
 
-#[derive(Clone, Copy)]
+#[derive(Clone, Copy, Debug, PartialEq, Eq, PartialOrd, Ord)]
 pub struct Samples(u64);
 
 impl Frames {
@@ -31,7 +33,7 @@ impl Frames {
     pub fn intervals(self) -> Intervals
         ensures { result ≡ intervals_of self }
     {
-        Intervals(Self::INTERVALS * self.0 as u64)
+        Intervals(Self::INTERVALS * u64::from(self.0))
     }
 }
 
@@ -58,14 +60,6 @@ impl Intervals {
         Samples(Self::SAMPLES * self.0)
     }
 
-    // The `requires` of `plus` and of `Samples::plus` keeps the sum within 64 bits. A clock's counts are far below it.
-    pub fn plus(self, more: Intervals) -> Intervals
-        requires { self.0 + more.0 < 2 ^ 64 }
-        ensures { result ≡ intervals_sum self more }
-    {
-        Intervals(self.0 + more.0)
-    }
-
     // What is left of these intervals when whole frames are taken away.
     pub fn within_frame(self) -> Intervals
         ensures { result ≡ within_frame self }
@@ -87,22 +81,11 @@ impl Samples {
         self.0
     }
 
-    pub fn plus(self, more: Samples) -> Samples
-        requires { self.0 + more.0 < 2 ^ 64 }
-        ensures { result ≡ samples_sum self more }
-    {
-        Samples(self.0 + more.0)
-    }
-
     // These samples without others, and none where the others are as many or more.
     pub fn less(self, others: Samples) -> Samples
         ensures { result ≡ samples_less self others }
     {
-        if self.0 < others.0 {
-            Samples(0)
-        } else {
-            Samples(self.0 - others.0)
-        }
+        Samples(self.0.saturating_sub(others.0))
     }
 
     // The whole intervals in these samples, and what is left of the samples without them.
@@ -116,5 +99,30 @@ impl Samples {
         ensures { result ≡ within_interval self }
     {
         Samples(self.0 % Intervals::SAMPLES)
+    }
+}
+
+// Counts of one unit are added. `can_add` keeps the sum within 64 bits; a clock's counts are far below it.
+impl Add for Intervals {
+    type Output = Intervals;
+
+    ghost can_add = { λ i j. i.0 + j.0 < 2 ^ 64 };
+
+    ghost add_gives = { λ i j sum. sum ≡ intervals_sum i j };
+
+    fn add(self, more: Intervals) -> Intervals {
+        Intervals(self.0 + more.0)
+    }
+}
+
+impl Add for Samples {
+    type Output = Samples;
+
+    ghost can_add = { λ s t. s.0 + t.0 < 2 ^ 64 };
+
+    ghost add_gives = { λ s t sum. sum ≡ samples_sum s t };
+
+    fn add(self, more: Samples) -> Samples {
+        Samples(self.0 + more.0)
     }
 }
