@@ -16,7 +16,7 @@ use Rattle.rom.specs.declared.frames.Frame.{Frame}
 use Rattle.rom.specs.declared.frames.Frame.TheVariants.{Silence, Stop, Repeat, Unvoiced, Voiced}
 use Rattle.rom.specs.declared.head.Head.{Head}
 use Rattle.rom.specs.declared.head.Kind.{Kind}
-use Rattle.rom.specs.declared.reader.FrameAnswer.TheVariants.{Whole}
+use Rattle.std.specs.Prelude.{Ok}
 use Rattle.rom.proofs.Fields.{field_lt}
 use Rattle.rom.proofs.Encoding.{Reads, reads, begins, rebase, begins_room, length_encoded}
 use Rattle.rom.proofs.KindLaws.{Sounds, OfHead, silence, stop, repeat, unvoiced, voiced, kind_given, kind_is}
@@ -96,22 +96,22 @@ module _ (P : ℕ) (s : List ℕ) (at : ℕ) where
   bits_counted : (f : Frame) → length (bits_of P f) ≡ bit_count P f
   bits_counted f = length_encoded (fields_of P f)
 
-  sound : (begun : ℕ) (f : Frame) (n : ℕ) → frame_from P s begun at ≡ Whole f n → Proper P f × Begins s at (bits_of P f) × (n ≡ at + length (bits_of P f))
+  sound : (begun : ℕ) (f : Frame) (n : ℕ) → frame_from P s begun at ≡ Ok (f, n) → Proper P f × Begins s at (bits_of P f) × (n ≡ at + length (bits_of P f))
   unfolding Good
   sound begun f n h =
       let w = whole_decoded P s at begun (sym h) in
       let g = subst Good (sym w.0) decoded_good (omega (arith, w.1, w.2)) in
       (g.0, g.1, rw bits_counted w.1)
 
-  complete : (begun : ℕ) (f : Frame) → Proper P f → Begins s at (bits_of P f) → frame_from P s begun at ≡ Whole f (at + length (bits_of P f))
+  complete : (begun : ℕ) (f : Frame) → Proper P f → Begins s at (bits_of P f) → frame_from P s begun at ≡ Ok (f, at + length (bits_of P f))
   complete begun f k h =
       let d = decoded_is f k.1 (reads s at 0 (fields_of P f) k.0 (rw add-zero h)) in
       sym (whole_is P s at begun (bits_counted f ∙ ap (bit_count P) d) d (begins_room s at (bits_of P f) h))
 
 -- wherever a prefix begins
 pub central_from : (P : ℕ) (s : List ℕ) (begun at : ℕ) (f : Frame) (n : ℕ)
-    → (frame_from P s begun at ≡ Whole f n) ↔ (Proper P f × Begins s at (bits_of P f) × (n ≡ at + length (bits_of P f)))
-central_from P s begun at f n = (sound P s at begun f n, λ h. complete P s at begun f h.0 h.1 ∙ ap (Whole f) (sym h.2))
+    → (frame_from P s begun at ≡ Ok (f, n)) ↔ (Proper P f × Begins s at (bits_of P f) × (n ≡ at + length (bits_of P f)))
+central_from P s begun at f n = (sound P s at begun f n, λ h. complete P s at begun f h.0 h.1 ∙ ap (λ n. Ok (f, n)) (sym h.2))
 
 pub central_law : CentralLaw
 central_law P s at = central_from P s at at

@@ -11,6 +11,7 @@ use lib.ListN.{length}
 use Rattle.base.specs.Refusals.{IMAGE, BEYOND}
 use Rattle.base.proofs.Booleans.{both_true, either_way}
 use Rattle.base.proofs.Faults.{none_applies}
+use Rattle.base.proofs.Refused.{first_uncut}
 use Rattle.rom.specs.Bits.{image_limit, image_valid, image_fault}
 
 -- what an image without fault 3 is
@@ -29,6 +30,10 @@ module _ (s : List ℕ) {b : Bool} {n : ℕ} (e : n ≡ image_fault s b) (h : n 
 -- the same where the place is an address
 pub in_image : (s : List ℕ) (a : ℕ) {n : ℕ} → n ≡ image_fault s (leb (length s) a) → n ≡ 0 → (a < length s) × (length s ≤ image_limit)
 in_image s a e h = let f = no_fault s e h in (leb-false _ _ f.1, (valid_length s f.0).1)
+
+-- such a fault tells of no cut frame
+pub image_uncut : (s : List ℕ) (b : Bool) → image_fault s b < 10
+image_uncut s b = first_uncut ((not (image_valid s), IMAGE) ∷ (b, BEYOND) ∷ []) (omega arith, (omega arith, tt))
 
 -- a bit is at or past the end exactly when the byte that holds it is
 pub bit_beyond : (s : List ℕ) (bit : ℕ) → leb (length s) (bit / 8) ≡ leb (8 * length s) bit

@@ -11,8 +11,8 @@ use Rattle.rom.specs.Items.{whole, Lawful}
 use Rattle.rom.specs.Phrases.{frame_code, item_answer_of}
 use Rattle.rom.specs.declared.frames.Frame.{Frame}
 use Rattle.rom.specs.declared.frames.Frame.TheVariants.{Silence, Stop, Repeat, Unvoiced, Voiced}
-use Rattle.rom.specs.declared.reader.FrameAnswer.{FrameAnswer}
-use Rattle.rom.specs.declared.reader.FrameAnswer.TheVariants.{Whole, Cut}
+use Rattle.rom.specs.Reader.{FrameAnswer}
+use Rattle.std.specs.Prelude.{Ok, Err}
 use Rattle.rom.proofs.Encoding.{length_encoded}
 use Rattle.rom.proofs.CentralLaw.{central_law}
 
@@ -27,9 +27,9 @@ bit_count_least P (Voiced e p k1 k2 k3 k4 k5 k6 k7 k8 k9 k10) = omega arith
 pub four_bits : (P : ℕ) (f : Frame) → 4 ≤ length (bits_of P f)
 four_bits P f = omega (arith, length_encoded (fields_of P f), bit_count_least P f)
 
-is_whole : {r : FrameAnswer} {f : Frame} {n : ℕ} → item_answer_of r ≡ whole f n → r ≡ Whole f n
-is_whole {r = Whole g m} e = cc
-is_whole {r = Cut h} e = let z : ◌≡◌ {A = ℕ} 0 1 = cc in absurd (omega arith)
+is_whole : {r : FrameAnswer} {f : Frame} {n : ℕ} → item_answer_of r ≡ whole f n → r ≡ Ok (f, n)
+is_whole {r = Ok (g, m)} e = cc
+is_whole {r = Err h} e = let z : ◌≡◌ {A = ℕ} 0 1 = cc in absurd (omega arith)
 
 pub frames_lawful : (P : ℕ) (s : List ℕ) → Lawful (frame_code P) s (λ at. item_answer_of (frame_at P s at))
 frames_lawful P s = record {

@@ -10,7 +10,7 @@ use native.Mathlib.Omega.{arith}
 use lib.ListN.{length, length-append}
 use Rattle.base.proofs.Booleans.{either_way, by_test}
 use Rattle.rom.specs.Items.{Code, ItemAnswer, whole, cut, Lawful, bits_all, Encoded, Ended, last, more, Phrase, There, phrase, none, items_of, items_from, has_stop}
-use Rattle.rom.specs.declared.reader.Shortfall.{Shortfall}
+use Rattle.base.specs.declared.refusal.Shortfall.{Shortfall}
 use Rattle.rom.proofs.Encoding.{begins_room, begins_join, begins_split}
 
 pub has_stop_lem : {C : Code} {fs : List C.Item} → Ended C fs → has_stop C fs ≡ true

@@ -15,8 +15,8 @@ use Rattle.base.proofs.Booleans.{either_way}
 use Rattle.base.proofs.Faults.{NoneApplies, Numbered, none_applies, faultless}
 use Rattle.rom.specs.Items.{Code, ItemAnswer, whole, cut, Lawful, bits_all, Ended, Phrase, There, items_from, has_stop, sum_of}
 use Rattle.rom.specs.Phrases.{walk_refused, walk_cut}
-use Rattle.rom.specs.declared.reader.Shortfall.{Shortfall}
-use Rattle.rom.specs.declared.phrases.Walked.{Walked}
+use Rattle.base.specs.declared.refusal.Shortfall.{Shortfall}
+use Rattle.rom.specs.Phrases.{Walked}
 use Rattle.rom.proofs.Encoding.{begins_room}
 use Rattle.rom.proofs.ItemLaws.{next_in, phrase_found, there_read}
 

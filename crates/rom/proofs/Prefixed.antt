@@ -12,9 +12,9 @@ use Rattle.rom.specs.Prefix.{prefixed_code, with_prefix, read_prefixed}
 use Rattle.rom.specs.Reader.{short_of}
 use Rattle.rom.specs.Theorems.{PrefixedLaw, PrefixedRead, PrefixedUnique}
 use Rattle.rom.specs.declared.frames.Frame.{Frame}
-use Rattle.rom.specs.declared.reader.FrameAnswer.{FrameAnswer}
-use Rattle.rom.specs.declared.reader.FrameAnswer.TheVariants.{Whole, Cut}
-use Rattle.rom.specs.declared.reader.Shortfall.{Shortfall}
+use Rattle.rom.specs.Reader.{FrameAnswer}
+use Rattle.std.specs.Prelude.{Ok, Err}
+use Rattle.base.specs.declared.refusal.Shortfall.{Shortfall}
 use Rattle.rom.proofs.Fields.{field_lt}
 use Rattle.rom.proofs.Encoding.{length_digits, digits_field, field_digits, begins_room, begins_join, begins_split}
 use Rattle.rom.proofs.CentralLaw.{central_from}
@@ -23,16 +23,16 @@ use Rattle.rom.proofs.FrameCode.{four_bits}
 use Rattle.rom.proofs.ItemLaws.{there_read}
 use Rattle.rom.proofs.ItemWalk.{one_phrase}
 
-is_whole : {q : ℕ} {t : FrameAnswer} {i : ℕ × Frame} {n : ℕ} → with_prefix q t ≡ whole i n → (q ≡ i.0) × (t ≡ Whole i.1 n)
-is_whole {q} {t = Whole g m} {i} {n} e =
+is_whole : {q : ℕ} {t : FrameAnswer} {i : ℕ × Frame} {n : ℕ} → with_prefix q t ≡ whole i n → (q ≡ i.0) × (t ≡ Ok (i.1, n))
+is_whole {q} {t = Ok (g, m)} {i} {n} e =
     let p : (q, g) ≡ i = cc in
     let r : m ≡ n = cc in
-    (ap (λ x. x.0) p, ap (λ x. Whole x.1 m) p ∙ ap (Whole i.1) r)
-is_whole {t = Cut h} e = let z : ◌≡◌ {A = ℕ} 0 1 = cc in absurd (omega arith)
+    (ap (λ x. x.0) p, ap (λ x. Ok (x.1, m)) p ∙ ap (λ n. Ok (i.1, n)) r)
+is_whole {t = Err h} e = let z : ◌≡◌ {A = ℕ} 0 1 = cc in absurd (omega arith)
 
-is_cut : (q : ℕ) {t : FrameAnswer} {h : Shortfall} → with_prefix q t ≡ cut h → t ≡ Cut h
-is_cut q {t = Whole g m} e = let z : ◌≡◌ {A = ℕ} 0 1 = cc in absurd (omega arith)
-is_cut q {t = Cut x} e = cc
+is_cut : (q : ℕ) {t : FrameAnswer} {h : Shortfall} → with_prefix q t ≡ cut h → t ≡ Err h
+is_cut q {t = Ok (g, m)} e = let z : ◌≡◌ {A = ℕ} 0 1 = cc in absurd (omega arith)
+is_cut q {t = Err x} e = cc
 
 -- what the reader tells where the bits end
 pub prefixed_cut : (Q P : ℕ) (s : List ℕ) (at : ℕ) {h : Shortfall} → read_prefixed Q P s at ≡ cut h → h ≡ short_of P s at (at + Q)

@@ -8,17 +8,21 @@ use native.Mathlib.Omega.{arith}
 use borrow.Author.Tests.{lt-leb, leb-false, not-false}
 use lib.Dec.{leb}
 use lib.ListN.{length}
+use Rattle.std.specs.Prelude.{Result, Ok, Err, IfOk}
+use Rattle.base.specs.Answers.{number_of}
 use Rattle.base.specs.Refusals.{IMAGE, BEYOND}
+use Rattle.base.specs.declared.refusal.Refusal.{Refusal}
 use Rattle.base.proofs.Faults.{NoneApplies, answered, refused_with}
+use Rattle.base.proofs.Refused.{refused_not_taken, uncut}
 use Rattle.rom.specs.Bits.{image_valid, image_fault, image_limit}
 use Rattle.rom.specs.Items.{bits_all}
 use Rattle.rom.specs.Reader.{short_of}
-use Rattle.rom.specs.Phrases.{frame_code, PhraseAt, frames_at, walk_accepted, walked_over, walk_of, walk_refused, part_of, phrase_of}
+use Rattle.rom.specs.Phrases.{frame_code, PhraseAt, frames_at, walk_accepted, Walked, walked_over, walk_of, walk_refused, walk_refused_with, walk_answer, part_of, phrase_of}
 use Rattle.rom.specs.Theorems.{WalkAccepts, WalkCounts, WalkRefuses, PhraseUnique, FramesRead}
 use Rattle.rom.specs.declared.frames.Frame.{Frame}
-use Rattle.rom.specs.declared.reader.Shortfall.{Shortfall}
-use Rattle.rom.specs.declared.phrases.Walked.{Walked}
-use Rattle.rom.proofs.Checks.{valid_length}
+use Rattle.rom.specs.declared.phrases.Extent.{Extent}
+use Rattle.base.specs.declared.refusal.Shortfall.{Shortfall}
+use Rattle.rom.proofs.Checks.{valid_length, image_uncut}
 use Rattle.rom.proofs.FrameCode.{frames_lawful}
 use Rattle.rom.proofs.ItemLaws.{there_read}
 use Rattle.rom.proofs.ItemWalk as walk
@@ -70,14 +74,15 @@ frames_read P s a fs inside = there_read (frame_code P) s _ (frames_lawful P s) 
 -- ---- what the walk and the part return
 
 module _ (P : ℕ) (s : List ℕ) (a : ℕ) where
-  module _ {w : Walked} {n : ℕ} (e : n ≡ image_fault s (leb (length s) a)) where
-    pub walk_refused_lem : w ≡ walk_refused n → (n ≡ 0 → ⊥) → w ≡ walk_of P s a
-    unfolding walk_of
-    walk_refused_lem r h = refused_with e walk_refused _ h r
+  pub walk_refused_lem : (r : Refusal) → number_of r ≡ image_fault s (leb (length s) a) → walk_answer (Err r) ≡ walk_of P s a
+  unfolding walk_of
+  walk_refused_lem r e =
+      refused_with e walk_refused _ (refused_not_taken r)
+      (ap (walk_refused_with (number_of r)) (uncut r (rw e (image_uncut s (leb (length s) a)))))
 
-    pub walk_answered : w ≡ walked_over P s (8 * a) (frames_at P s a) → n ≡ 0 → w ≡ walk_of P s a
-    unfolding walk_of
-    walk_answered r h = answered e walk_refused _ h r
+  pub walk_answered : {w : Walked} → 0 ≡ image_fault s (leb (length s) a) → w ≡ walked_over P s (8 * a) (frames_at P s a) → w ≡ walk_of P s a
+  unfolding walk_of
+  walk_answered e r = answered e walk_refused _ refl r
 
   module _ {w : Walked} (e : w ≡ walk_of P s a) where
     -- the phrase's bits end in the image
@@ -89,3 +94,8 @@ module _ (P : ℕ) (s : List ℕ) (a : ℕ) where
     pub phrase_is : part_of s a w.refusal w.bits ≡ phrase_of P s a
     unfolding phrase_of
     phrase_is = ap (λ (w : Walked). part_of s a w.refusal w.bits) e
+
+  pub accepted_room : (w : Result Extent Refusal) → walk_answer w ≡ walk_of P s a
+      → IfOk w (λ e. (8 * a + e.bits ≤ 8 * length s) × (length s ≤ image_limit))
+  accepted_room (Ok x) e = phrase_room e refl
+  accepted_room (Err r) e = tt

@@ -8,13 +8,12 @@ use native.Mathlib.Nat.{zero-add}
 use native.Mathlib.Omega.{arith}
 use lib.ListN.{length}
 use Rattle.rom.specs.Frames.{is_stop}
-use Rattle.rom.specs.Reader.{short_of, shortfall_of, frame_at}
+use Rattle.rom.specs.Reader.{FrameAnswer, short_of, frame_at}
 use Rattle.rom.specs.Phrases.{frame_code, item_answer_of, frames_from, walk_accepted, walk_cut, walked_over}
 use Rattle.rom.specs.declared.frames.Frame.{Frame}
-use Rattle.rom.specs.declared.reader.FrameAnswer.{FrameAnswer}
-use Rattle.rom.specs.declared.reader.FrameAnswer.TheVariants.{Whole, Cut}
-use Rattle.rom.specs.declared.reader.Shortfall.{Shortfall}
-use Rattle.rom.specs.declared.phrases.Walked.{Walked}
+use Rattle.std.specs.Prelude.{Ok, Err}
+use Rattle.base.specs.declared.refusal.Shortfall.{Shortfall}
+use Rattle.rom.specs.Phrases.{Walked}
 use Rattle.rom.proofs.Decoding.{cut_decoded}
 use Rattle.rom.proofs.FrameCode.{frames_lawful}
 use Rattle.rom.proofs.ItemWalk as walk
@@ -38,14 +37,14 @@ module _ (P : ℕ) (s : List ℕ) (start : ℕ) where
   come_first = walk.come_first (frame_code P) _ _ _ s _ (frames_lawful P s) start
 
 module _ {P : ℕ} {s : List ℕ} {start at k : ℕ} (h : Come P s start at k) {a : FrameAnswer} (e : a ≡ frame_at P s at) where
-  pub come_cut : {x : Shortfall} → a ≡ Cut x → walk_cut (shortfall_of a) ≡ walked_over P s start (frames_from P s start (8 * length s))
+  pub come_cut : {x : Shortfall} → a ≡ Err x → walk_cut x ≡ walked_over P s start (frames_from P s start (8 * length s))
   come_cut c =
-      let x = ap shortfall_of c ∙ (cut_decoded P s at at (sym c ∙ e)).0 in
+      let x = (cut_decoded P s at at (sym c ∙ e)).0 in
       let b : start + (at - start) ≡ at = omega (arith, h.passed) in
       ap walk_cut (x ∙ rw b)
       ∙ over_is P s start (walk.come_cut (frame_code P) _ _ _ s _ (frames_lawful P s) start h (ap item_answer_of (sym e ∙ c)))
 
-  module _ {f : Frame} {n : ℕ} (w : a ≡ Whole f n) where
+  module _ {f : Frame} {n : ℕ} (w : a ≡ Ok (f, n)) where
     pub come_stop : is_stop f ≡ true → walk_accepted (n - start) (k + 1) ≡ walked_over P s start (frames_from P s start (8 * length s))
     come_stop t = over_is P s start (walk.come_stop (frame_code P) _ _ _ s _ (frames_lawful P s) start h (ap item_answer_of (sym e ∙ w)) t)
 

@@ -9,8 +9,8 @@ use Rattle.rom.specs.Bits.{Begins}
 use Rattle.rom.specs.Frames.{fields_of, Proper, bits_of, bit_count}
 use Rattle.rom.specs.Reader.{frame_from}
 use Rattle.rom.specs.declared.frames.Frame.{Frame}
-use Rattle.rom.specs.declared.reader.FrameAnswer.{FrameAnswer}
-use Rattle.rom.specs.declared.reader.FrameAnswer.TheVariants.{Whole}
+use Rattle.rom.specs.Reader.{FrameAnswer}
+use Rattle.std.specs.Prelude.{Ok}
 use Rattle.rom.proofs.Encoding.{length_encoded, begins_room}
 use Rattle.rom.proofs.CentralLaw.{central_from}
 use Rattle.rom.proofs.FrameCode.{four_bits}
@@ -24,7 +24,7 @@ pub record WholeFrame (P : ℕ) (s : List ℕ) (at : ℕ) (f : Frame) (next : �
   pub inside : next ≤ 8 * length s
   pub further : at + 4 ≤ next
 
-pub whole_frame_lem : (P : ℕ) (s : List ℕ) (begun at : ℕ) {a : FrameAnswer} {f : Frame} {next : ℕ} → a ≡ frame_from P s begun at → a ≡ Whole f next
+pub whole_frame_lem : (P : ℕ) (s : List ℕ) (begun at : ℕ) {a : FrameAnswer} {f : Frame} {next : ℕ} → a ≡ frame_from P s begun at → a ≡ Ok (f, next)
     → WholeFrame P s at f next
 whole_frame_lem P s begun at {f = f} {next} e w =
     let l = (central_from P s begun at f next).0 (sym e ∙ w) in

@@ -1,10 +1,8 @@
 -- Frames and their bits (01, "Frames"). P is the width of the pitch field.
-use Rattle.std.specs.Prelude.{Bool, true, false, List, [], ◌∷◌, ◌++◌, ℕ, ◌+◌, ◌^◌, ◌<◌}
+use Rattle.std.specs.Prelude.{Option, Some, None, Bool, true, false, List, [], ◌∷◌, ◌++◌, ℕ, ◌+◌, ◌^◌, ◌<◌}
 use Rattle.rom.specs.Bits.{digits}
 use Rattle.rom.specs.declared.frames.Frame.{Frame}
 use Rattle.rom.specs.declared.frames.Frame.TheVariants.{Silence, Stop, Repeat, Unvoiced, Voiced}
-use Rattle.rom.specs.declared.frames.MaybeFrame.{MaybeFrame}
-use Rattle.rom.specs.declared.frames.MaybeFrame.TheVariants.{Some, None}
 
 -- the pitch width of the TMS5220 and TMS5200
 abbrev pub pitch_width : ℕ
@@ -65,7 +63,7 @@ is_stop (Voiced e p k1 k2 k3 k4 k5 k6 k7 k8 k9 k10) = false
 
 -- The numbers of each case of a frame or none: the kind (0 none, 1 silence, 2 stop, 3 repeat, 4 unvoiced, 5 voiced),
 -- the energy and pitch indexes and those of K1 to K10; 0 for an index that the kind does not carry.
-abbrev pub numbers_of : MaybeFrame → List ℕ
+abbrev pub numbers_of : Option Frame → List ℕ
 numbers_of None = 0 ∷ 0 ∷ 0 ∷ 0 ∷ 0 ∷ 0 ∷ 0 ∷ 0 ∷ 0 ∷ 0 ∷ 0 ∷ 0 ∷ 0 ∷ []
 numbers_of (Some Silence) = 1 ∷ 0 ∷ 0 ∷ 0 ∷ 0 ∷ 0 ∷ 0 ∷ 0 ∷ 0 ∷ 0 ∷ 0 ∷ 0 ∷ 0 ∷ []
 numbers_of (Some Stop) = 2 ∷ 15 ∷ 0 ∷ 0 ∷ 0 ∷ 0 ∷ 0 ∷ 0 ∷ 0 ∷ 0 ∷ 0 ∷ 0 ∷ 0 ∷ []

@@ -2,7 +2,7 @@
 -- width, with or without a prefix.
 use Rattle.std.specs.Prelude.{◌≡◌, ◌↔◌, Bool, true, false, cond, ◌||◌, List, [], ◌∷◌, ◌++◌, ℕ, zero, suc, ◌+◌, ◌≤◌, ◌<◌, length}
 use Rattle.rom.specs.Bits.{Begins}
-use Rattle.rom.specs.declared.reader.Shortfall.{Shortfall}
+use Rattle.base.specs.declared.refusal.Shortfall.{Shortfall}
 
 -- items with bits; a proper item is one that the code has, so that its bits say which it is
 pub record Code : Type 1 where

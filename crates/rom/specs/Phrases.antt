@@ -1,17 +1,19 @@
 -- The phrase walk (01, "Frames", "What acceptance reads"). P is the width of the pitch field.
-use Rattle.std.specs.Prelude.{cond, List, [], ℕ, ◌+◌, ◌*◌, ◌/◌, eqb, leb, length, take, drop}
+use Rattle.std.specs.Prelude.{Result, Ok, Err, cond, List, [], ℕ, ◌+◌, ◌*◌, ◌/◌, eqb, leb, length, take, drop}
+use Rattle.base.specs.Answers.{number_of, no_shortfall, shortfall_of}
 use Rattle.base.specs.Refusals.{TAKEN, NO_PHRASE, unless_fault}
 use Rattle.base.specs.Units.{frames, intervals, samples, intervals_of, samples_of}
+use Rattle.base.specs.declared.refusal.Refusal.{Refusal}
+use Rattle.base.specs.declared.refusal.Shortfall.{Shortfall}
 use Rattle.base.specs.declared.units.Frames.{Frames}
+use Rattle.base.specs.declared.units.Intervals.{Intervals}
+use Rattle.base.specs.declared.units.Samples.{Samples}
 use Rattle.rom.specs.Bits.{image_fault}
 use Rattle.rom.specs.Frames.{bits_of, Proper, is_stop}
-use Rattle.rom.specs.Reader.{no_shortfall, short_of, frame_at}
+use Rattle.rom.specs.Reader.{FrameAnswer, short_of, frame_at}
 use Rattle.rom.specs.Items.{Code, ItemAnswer, whole, cut, items_from, has_stop, bits_all, Phrase, There}
 use Rattle.rom.specs.declared.frames.Frame.{Frame}
-use Rattle.rom.specs.declared.reader.FrameAnswer.{FrameAnswer}
-use Rattle.rom.specs.declared.reader.FrameAnswer.TheVariants.{Whole, Cut}
-use Rattle.rom.specs.declared.reader.Shortfall.{Shortfall}
-use Rattle.rom.specs.declared.phrases.Walked.{Walked}
+use Rattle.rom.specs.declared.phrases.Extent.{Extent}
 
 -- frames as items
 abbrev pub frame_code : ℕ → Code
@@ -27,8 +29,8 @@ FramesThere P s a = There (frame_code P) s (8 * a)
 
 -- the frame answer, as that of an item
 abbrev pub item_answer_of : FrameAnswer → ItemAnswer Frame
-item_answer_of (Whole f next) = whole f next
-item_answer_of (Cut h) = cut h
+item_answer_of (Ok (f, next)) = whole f next
+item_answer_of (Err h) = cut h
 
 -- the frames read from bit `at` on, through the first stop or up to where the bits end; at most n
 abbrev pub frames_from : ℕ → List ℕ → ℕ → ℕ → List Frame
@@ -37,6 +39,16 @@ frames_from P s = items_from (frame_code P) (λ at. item_answer_of (frame_at P s
 -- the frames read from byte address a on; each has a bit, so that 8 for each byte of the image are enough
 abbrev pub frames_at : ℕ → List ℕ → ℕ → List Frame
 frames_at P s a = frames_from P s (8 * a) (8 * length s)
+
+-- what a walk returns: the refusal number, and the phrase's bits, frames and duration; with 10, how short the image is. The number of
+-- frames is the duration in frames
+pub record Walked : Type 0 where
+  pub refusal : ℕ
+  pub bits : ℕ
+  pub frames : Frames
+  pub intervals : Intervals
+  pub samples : Samples
+  pub short : Shortfall
 
 -- a refused walk: zero for each number but those of number 10
 abbrev pub walk_refused_with : ℕ → Shortfall → Walked
@@ -72,6 +84,12 @@ walked_over P s start fs =
 -- the walk from byte address a, refused at or past the image's length
 unfoldable pub walk_of : ℕ → List ℕ → ℕ → Walked
 walk_of P s a = unless_fault (image_fault s (leb (length s) a)) walk_refused (walked_over P s (8 * a) (frames_at P s a))
+
+-- what an answer of the operation says
+abbrev pub walk_answer : Result Extent Refusal → Walked
+walk_answer (Ok e) =
+    record { refusal = TAKEN; bits = e.bits; frames = e.frames; intervals = e.intervals; samples = e.samples; short = no_shortfall }
+walk_answer (Err r) = walk_refused_with (number_of r) (shortfall_of r)
 
 -- the part of the image from a on that holds `bits` bits, through the byte with the last of them, empty where the walk is refused
 abbrev pub part_of : List ℕ → ℕ → ℕ → ℕ → List ℕ

@@ -1,14 +1,12 @@
 -- Frames that each follow a prefix of Q bits, as the rate bits of the TMS5220C. They are for a device with such frames;
 -- the TMS5220 and TMS5200 have none. They are items as plain frames are, and their reader obeys the central law of its
 -- items (`PrefixedLaw`, `PrefixedRead` in Theorems). P is the width of the pitch field.
-use Rattle.std.specs.Prelude.{List, ◌++◌, ℕ, ◌+◌, ◌^◌, ◌<◌}
+use Rattle.std.specs.Prelude.{Ok, Err, List, ◌++◌, ℕ, ◌+◌, ◌^◌, ◌<◌}
 use Rattle.rom.specs.Bits.{field, digits}
 use Rattle.rom.specs.Frames.{bits_of, Proper, is_stop}
-use Rattle.rom.specs.Reader.{frame_from}
+use Rattle.rom.specs.Reader.{FrameAnswer, frame_from}
 use Rattle.rom.specs.Items.{Code, ItemAnswer, whole, cut}
 use Rattle.rom.specs.declared.frames.Frame.{Frame}
-use Rattle.rom.specs.declared.reader.FrameAnswer.{FrameAnswer}
-use Rattle.rom.specs.declared.reader.FrameAnswer.TheVariants.{Whole, Cut}
 
 -- a prefix's value and its frame
 abbrev pub prefixed_code : ℕ → ℕ → Code
@@ -21,8 +19,8 @@ prefixed_code Q P = record {
 
 -- the frame answer after a prefix of value q, as that of an item
 abbrev pub with_prefix : ℕ → FrameAnswer → ItemAnswer (ℕ × Frame)
-with_prefix q (Whole f next) = whole (q, f) next
-with_prefix q (Cut h) = cut h
+with_prefix q (Ok (f, next)) = whole (q, f) next
+with_prefix q (Err h) = cut h
 
 -- the reader of a prefix and its frame
 abbrev pub read_prefixed : ℕ → ℕ → List ℕ → ℕ → ItemAnswer (ℕ × Frame)

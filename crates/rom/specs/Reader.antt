@@ -1,19 +1,18 @@
 -- The frame reader, and the operation that takes a frame at a bit (01, "Frames", "Refusal numbers"). P is the width of
 -- the pitch field.
-use Rattle.std.specs.Prelude.{cond, List, ℕ, ◌+◌, ◌*◌, ◌-◌, max, eqb, leb, ltb, length}
+use Rattle.std.specs.Prelude.{Option, Some, None, Result, Ok, Err, cond, List, ℕ, ◌+◌, ◌*◌, ◌-◌, max, eqb, leb, ltb, length}
+use Rattle.base.specs.Answers.{number_of, no_shortfall, shortfall_of}
 use Rattle.base.specs.Refusals.{TAKEN, NO_PHRASE, unless_fault}
+use Rattle.base.specs.declared.refusal.Refusal.{Refusal}
+use Rattle.base.specs.declared.refusal.Shortfall.{Shortfall}
 use Rattle.rom.specs.Bits.{field, image_fault}
 use Rattle.rom.specs.Frames.{bit_count}
 use Rattle.rom.specs.declared.frames.Frame.{Frame}
 use Rattle.rom.specs.declared.frames.Frame.TheVariants as frame
-use Rattle.rom.specs.declared.frames.MaybeFrame.TheVariants.{Some, None}
 use Rattle.rom.specs.declared.head.Head.{Head}
 use Rattle.rom.specs.declared.head.Kind.{Kind}
 use Rattle.rom.specs.declared.head.Kind.TheVariants.{Silence, Stop, Repeat, Unvoiced, Voiced}
-use Rattle.rom.specs.declared.reader.FrameAnswer.{FrameAnswer}
-use Rattle.rom.specs.declared.reader.FrameAnswer.TheVariants.{Whole, Cut}
-use Rattle.rom.specs.declared.reader.FrameTaken.{FrameTaken}
-use Rattle.rom.specs.declared.reader.Shortfall.{Shortfall}
+use Rattle.rom.specs.declared.reader.Taken.{Taken}
 
 -- the unvoiced frame whose K1 to K4 stand from bit `at` on
 abbrev pub unvoiced_at : List ℕ → ℕ → ℕ → Frame
@@ -81,27 +80,29 @@ cut_at P begun at next end = let there = max begun end in record { begun = begun
 unfoldable pub short_of : ℕ → List ℕ → ℕ → ℕ → Shortfall
 short_of P s begun at = cut_at P begun at (at + bit_count P (decoded P s at)) (8 * length s)
 
--- zeros, where nothing is cut
-abbrev pub no_shortfall : Shortfall
-no_shortfall = record { begun = 0; missing = 0 }
-
--- what an answer tells of it
-abbrev pub shortfall_of : FrameAnswer → Shortfall
-shortfall_of (Whole f next) = no_shortfall
-shortfall_of (Cut h) = h
-
 -- ---- the reader
 
--- a frame is taken whole, with the bit after it, or the image ends inside it or before it. It stands at bit `at`, and with its prefix it
+-- a frame is taken whole, with the bit after it, or the image ends inside it or before it
+abbrev pub FrameAnswer : Type 0
+FrameAnswer = Result (Frame × ℕ) Shortfall
+
+-- the frame answer where the frame stands at bit `at`, and with its prefix it
 -- begins at bit `begun`
 unfoldable pub frame_from : ℕ → List ℕ → ℕ → ℕ → FrameAnswer
 frame_from P s begun at =
     let f = decoded P s at in
-    cond (leb (at + bit_count P f) (8 * length s)) (Whole f (at + bit_count P f)) (Cut (short_of P s begun at))
+    cond (leb (at + bit_count P f) (8 * length s)) (Ok (f, at + bit_count P f)) (Err (short_of P s begun at))
 
 -- without a prefix
 abbrev pub frame_at : ℕ → List ℕ → ℕ → FrameAnswer
 frame_at P s at = frame_from P s at at
+
+-- what taking a frame at a bit returns: the refusal number, the frame or none, its bits, and with 10 how short the image is
+pub record FrameTaken : Type 0 where
+  pub refusal : ℕ
+  pub frame : Option Frame
+  pub bits : ℕ
+  pub short : Shortfall
 
 -- a refused call: no frame, and zero for each number but those of number 10
 abbrev pub no_frame : ℕ → Shortfall → FrameTaken
@@ -109,10 +110,15 @@ no_frame n h = record { refusal = n; frame = None; bits = 0; short = h }
 
 -- what the operation returns for each frame answer: 0 with the frame and its bits, or 10 with how short the image is
 abbrev pub taken_of : ℕ → FrameAnswer → FrameTaken
-taken_of P (Whole f next) = record { refusal = TAKEN; frame = Some f; bits = bit_count P f; short = no_shortfall }
-taken_of P (Cut h) = no_frame NO_PHRASE h
+taken_of P (Ok (f, next)) = record { refusal = TAKEN; frame = Some f; bits = bit_count P f; short = no_shortfall }
+taken_of P (Err h) = no_frame NO_PHRASE h
 
 -- the frame taken at a bit of an image, refused at or past its end
 unfoldable pub frame_taken_of : ℕ → List ℕ → ℕ → FrameTaken
 frame_taken_of P s bit =
     unless_fault (image_fault s (leb (8 * length s) bit)) (λ n. no_frame n no_shortfall) (taken_of P (frame_at P s bit))
+
+-- what an answer of the operation says
+abbrev pub taken_answer : Result Taken Refusal → FrameTaken
+taken_answer (Ok t) = record { refusal = TAKEN; frame = Some t.frame; bits = t.bits; short = no_shortfall }
+taken_answer (Err r) = no_frame (number_of r) (shortfall_of r)

@@ -1,6 +1,6 @@
 -- What is proved of the reader and the walk, for every image, address and width P of the pitch field. The proofs are in
 -- proofs/: CentralLaw, Shortfalls (of cut frames), Prefixed (of frames after a prefix) and Theorems (of all else).
-use Rattle.std.specs.Prelude.{◌≡◌, ◌↔◌, true, List, ℕ, ◌+◌, ◌*◌, ◌-◌, ◌≤◌, ◌<◌, length}
+use Rattle.std.specs.Prelude.{◌≡◌, ◌↔◌, Ok, Err, true, List, ℕ, ◌+◌, ◌*◌, ◌-◌, ◌≤◌, ◌<◌, length}
 use Rattle.base.specs.Refusals.{TAKEN}
 use Rattle.rom.specs.Bits.{image_valid, Begins}
 use Rattle.rom.specs.Frames.{Proper, bits_of}
@@ -11,15 +11,14 @@ use Rattle.rom.specs.Prefix.{prefixed_code, read_prefixed}
 use Rattle.rom.specs.declared.frames.Frame.{Frame}
 use Rattle.rom.specs.declared.head.Kind.{Kind}
 use Rattle.rom.specs.declared.head.Kind.TheVariants.{Unvoiced, Voiced}
-use Rattle.rom.specs.declared.reader.FrameAnswer.TheVariants.{Whole, Cut}
-use Rattle.rom.specs.declared.reader.Shortfall.{Shortfall}
+use Rattle.base.specs.declared.refusal.Shortfall.{Shortfall}
 
 -- The reader's central law: it returns a whole frame f, and `next`, exactly when f is proper, the image's bits there begin
 -- with the bits that the table of kinds gives f, and `next` is the bit after them.
 abbrev pub CentralLaw : Type 0
 CentralLaw =
     (P : ℕ) (s : List ℕ) (at : ℕ) (f : Frame) (next : ℕ)
-    → (frame_at P s at ≡ Whole f next) ↔ (Proper P f × Begins s at (bits_of P f) × (next ≡ at + length (bits_of P f)))
+    → (frame_at P s at ≡ Ok (f, next)) ↔ (Proper P f × Begins s at (bits_of P f) × (next ≡ at + length (bits_of P f)))
 
 -- How many bits a frame behind a prefix of Q bits lacks, of which some are there, in numbers (02, §4): a cut energy lacks bits up to
 -- Q + 4, a cut repeat or pitch up to Q + 5 + P; later the kind k is known.
@@ -32,7 +31,7 @@ pub data Counted (Q P : ℕ) (k : Kind) (there missing : ℕ) : Type 0 where
 -- Where the reader returns a cut frame, it tells the bit at which the frame began, its prefix among it, and how many bits are missing.
 abbrev pub Missing : Type 0
 Missing =
-    (Q P : ℕ) (s : List ℕ) (at : ℕ) (h : Shortfall) → frame_from P s at (at + Q) ≡ Cut h
+    (Q P : ℕ) (s : List ℕ) (at : ℕ) (h : Shortfall) → frame_from P s at (at + Q) ≡ Err h
     → (h.begun ≡ at) × (0 < h.missing) × Counted Q P (kind_of (head_at P s (at + Q))) (8 * length s - at) h.missing
 
 -- The walk's number is 0 exactly when the image is valid and a phrase begins at the address.

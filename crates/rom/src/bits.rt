@@ -1,10 +1,11 @@
 // The bits of a lent image.
 ghost use Rattle.std.specs.Prelude.{◌≡◌, List, ℕ, ◌+◌, ◌*◌, ◌/◌, ◌%◌, ◌≤◌, ◌<◌, ◌^◌, length};
+ghost use Rattle.base.specs.Answers.{number_of_answer};
 ghost use Rattle.rom.specs.Bits.{field, image_valid, image_fault};
 ghost use Rattle.rom.specs.Window.{narrow, wide, backwards_at, Window};
 
 use base::bytes::byte_at;
-use base::refusal::{BEYOND, IMAGE, TAKEN};
+use base::refusal::Refusal;
 
 // The most bytes of an image.
 pub const IMAGE_LIMIT: usize = 262144;
@@ -13,18 +14,17 @@ pub const IMAGE_LIMIT: usize = 262144;
 pub fn image_valid(image: &[u8]) -> bool
     ensures { result ≡ image_valid image.now }
 {
-    let n = image.len();
-    (0 < n) & (n <= IMAGE_LIMIT)
+    0 < image.len() && image.len() <= IMAGE_LIMIT
 }
 
 // The fault of a call on an image: 3, then 2 where the caller has found that what is asked for lies beyond the end.
-pub fn image_fault(image: &[u8], beyond: bool) -> u8
-    ensures { result ≡ image_fault image.now beyond }
+pub fn image_fault(image: &[u8], beyond: bool) -> Result<(), Refusal>
+    ensures { number_of_answer result ≡ image_fault image.now beyond }
 {
     if !image_valid(image) {
-        return IMAGE;
+        return Err(Refusal::Image);
     }
-    if beyond { BEYOND } else { TAKEN }
+    if beyond { Err(Refusal::Beyond) } else { Ok(()) }
 }
 
 // The number of four bytes, the first the most significant.

@@ -1,12 +1,41 @@
 // Frames: kinds and indexes.
-ghost use Rattle.std.specs.Prelude.{◌≡◌};
-ghost use Rattle.rom.specs.Frames.{is_stop, numbers_of};
+ghost use Rattle.std.specs.Prelude.{◌≡◌, ◌≤◌};
+ghost use Rattle.rom.specs.Frames.{pitch_width, is_stop, numbers_of};
 
-// The width of the pitch field of the TMS5220 and TMS5200.
-pub const PITCH_BITS: usize = 6;
+use std::marker::Model;
+
+// The width of a device's pitch field: at most 8, so that a pitch index is a byte.
+#[derive(Clone, Copy, Debug, PartialEq, Eq)]
+pub struct PitchWidth {
+    bits: usize,
+}
+
+impl Model for PitchWidth {
+    ghost use Rattle.std.specs.Prelude.{ℕ, ◌≤◌};
+
+    ghost Value = { ℕ };
+
+    ghost view = { λ w. w.bits };
+
+    ghost invariant = { λ w. w.bits ≤ 8 };
+
+    ghost inverse = { λ n. record { bits = n } };
+}
+
+impl PitchWidth {
+    // Of the TMS5220 and TMS5200.
+    pub const TMS5220: PitchWidth = PitchWidth { bits: 6 };
+
+    pub fn bits(self) -> usize
+        ensures value { result ≡ self }
+        ensures upper_bound { result ≤ 8 }
+    {
+        self.bits
+    }
+}
 
 // Each kind carries the indexes that its bits hold, and no others.
-#[derive(Clone, Copy)]
+#[derive(Clone, Copy, Debug, PartialEq, Eq)]
 pub enum Frame {
     Silence,
     Stop,
@@ -37,33 +66,20 @@ pub enum Frame {
     },
 }
 
-// A frame, or none.
-#[derive(Clone, Copy)]
-pub enum MaybeFrame {
-    Some(Frame),
-    None,
-}
-
 pub fn is_stop(f: Frame) -> bool
     ensures { result ≡ is_stop f }
 {
-    match f {
-        Frame::Silence => false,
-        Frame::Stop => true,
-        Frame::Repeat { .. } => false,
-        Frame::Unvoiced { .. } => false,
-        Frame::Voiced { .. } => false,
-    }
+    matches!(f, Frame::Stop)
 }
 
 // Kind, energy, pitch and K1 to K10 as numbers.
 pub type Numbers = [u8; 13];
 
 // The numbers of a frame: 0 for an index that the kind does not carry, all 0 for no frame.
-pub fn numbers(f: MaybeFrame) -> Numbers
+pub fn numbers(f: Option<Frame>) -> Numbers
     ensures { result ≡ numbers_of f }
 {
-    let MaybeFrame::Some(f) = f else {
+    let Some(f) = f else {
         return [0; 13];
     };
     match f {

@@ -9,4 +9,4 @@ returns-then-end-next c =
 
 pub returns : goal.returns
 returns c =
-    λ s h w e. whole_is _ _ _ _ ((c.kind_bits.ensures ∙ kind_length _ _ _ h c.kind_of-kind.ensures)) (c.frame_of-frame.ensures _ _ w ∙ kind_decoded _ _ _ h c.kind_of-kind.ensures) (omega (arith, c.if-end-next.false))
+    λ s h w e. whole_is _ _ _ _ ((c.kind_bits.ensures ∙ kind_length _ _ _ h c.kind_of-kind.ensures)) (c.frame_of.ensures _ _ w ∙ kind_decoded _ _ _ h c.kind_of-kind.ensures) (omega (arith, c.if-end-next.false))
