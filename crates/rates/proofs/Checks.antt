@@ -8,7 +8,9 @@ use borrow.Author.Tests.{leb-false, not-false}
 use lib.Dec.{leb}
 use lib.ListN.{length}
 use Rattle.base.specs.Refusals.{BEYOND, IMAGE, STATE}
+use native.Mathlib.Omega.{arith}
 use Rattle.base.proofs.Faults.{none_applies}
+use Rattle.base.proofs.Refused.{first_uncut}
 use Rattle.rom.specs.Bits.{image_limit, image_valid}
 use Rattle.rom.proofs.Checks.{valid_length}
 use Rattle.rates.specs.Rates.{rate_valid}
@@ -26,3 +28,9 @@ no_rate_fault s r {b} e h =
 pub in_image : (s : List ℕ) (r : FrameRate) (a : ℕ) {n : ℕ} → n ≡ rate_fault s r (leb (length s) a) → n ≡ 0
     → (a < length s) × (length s ≤ image_limit)
 in_image s r a e h = let f = no_rate_fault s r e h in (leb-false _ _ f.2, (valid_length s f.0).1)
+
+-- such a fault tells of no cut frame
+pub rate_uncut : (s : List ℕ) (r : FrameRate) (b : Bool) → rate_fault s r b < 10
+rate_uncut s r b =
+    first_uncut ((not (image_valid s), IMAGE) ∷ (not (rate_valid r), STATE) ∷ (b, BEYOND) ∷ [])
+    (omega arith, (omega arith, (omega arith, tt)))

@@ -13,8 +13,8 @@ use Rattle.rom.specs.Items.{bits_all, Ended, last, more, items_from, items_of, T
 use Rattle.rom.specs.Phrases.{frame_code, FramesThere, item_answer_of, frames_from}
 use Rattle.rom.specs.Prefix.{with_prefix}
 use Rattle.rom.specs.declared.frames.Frame.{Frame}
-use Rattle.rom.specs.declared.reader.FrameAnswer.{FrameAnswer}
-use Rattle.rom.specs.declared.reader.FrameAnswer.TheVariants.{Whole, Cut}
+use Rattle.rom.specs.Reader.{FrameAnswer}
+use Rattle.std.specs.Prelude.{Ok, Err}
 use Rattle.rom.proofs.FrameCode.{frames_lawful}
 use Rattle.rom.proofs.ItemLaws.{there_inside, there_read}
 use Rattle.rom.proofs.Prefixed.{prefixed_read}
@@ -47,8 +47,8 @@ module _ (P : ℕ) where
         go : ((at : ℕ) → items_from (item_code (plain_form P)) (read_item (plain_form P) s) at n ≡ map plain (frames_from P s at n)) → (r : FrameAnswer)
             → items_of (item_code (plain_form P)) (with_prefix 0 r) (λ next. items_from (item_code (plain_form P)) (read_item (plain_form P) s) next n)
             ≡ map plain (items_of (frame_code P) (item_answer_of r) (λ next. frames_from P s next n))
-        go ih (Whole f next) = either_way (is_stop f) (λ t. rw t) (λ t. rw t (ap (λ (is : List Item). plain f ∷ is) (ih next)))
-        go ih (Cut h) = refl
+        go ih (Ok (f, next)) = either_way (is_stop f) (λ t. rw t) (λ t. rw t (ap (λ (is : List Item). plain f ∷ is) (ih next)))
+        go ih (Err h) = refl
 
     -- the frames there, as items, are the items there
     pub plain_there : (a : ℕ) (fs : List Frame) → FramesThere P s a fs → There (item_code (plain_form P)) s (8 * a) (map plain fs)

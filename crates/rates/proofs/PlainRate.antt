@@ -14,15 +14,15 @@ use Rattle.rom.specs.Prefix.{with_prefix}
 use Rattle.rom.specs.Reader.{frame_at, taken_of, frame_taken_of}
 use Rattle.rom.specs.Phrases.{frame_code, frames_at, walked_over, walk_of, part_of, phrase_of}
 use Rattle.rom.specs.declared.frames.Frame.{Frame}
-use Rattle.rom.specs.declared.phrases.Walked.{Walked}
-use Rattle.rom.specs.declared.reader.FrameAnswer.{FrameAnswer}
-use Rattle.rom.specs.declared.reader.FrameAnswer.TheVariants.{Whole, Cut}
-use Rattle.rom.specs.declared.reader.FrameTaken.{FrameTaken}
+use Rattle.rom.specs.Phrases.{Walked}
+use Rattle.rom.specs.Reader.{FrameAnswer}
+use Rattle.std.specs.Prelude.{Ok, Err}
+use Rattle.rom.specs.Reader.{FrameTaken}
 use Rattle.rates.specs.Rates.{power_up_rate}
 use Rattle.rates.specs.Form.{plain_form, plain, item_code, kept_intervals}
 use Rattle.rates.specs.Walks.{rated_over, rated_walk_of, rated_phrase_of, rated_answer, rated_taken_of}
 use Rattle.rates.specs.Theorems.{RatedPlain}
-use Rattle.rates.specs.declared.walks.RatedTaken.{RatedTaken}
+use Rattle.rates.specs.Walks.{RatedTaken}
 use Rattle.rates.proofs.Plain.{plain_read, plain_bits, plain_from}
 
 -- the numbers of a frame taken without its rate
@@ -47,8 +47,8 @@ module _ (P : ℕ) where
   plain_over s start fs = rw (plain_stops fs, plain_bits P fs, plain_length fs, plain_kept fs, add-zero)
 
   plain_answer : (t : FrameAnswer) → unrated (rated_answer (plain_form P) (with_prefix 0 t)) ≡ taken_of P t
-  plain_answer (Whole f next) = rw zero-add
-  plain_answer (Cut h) = refl
+  plain_answer (Ok (f, next)) = rw zero-add
+  plain_answer (Err h) = refl
 
   module _ (s : List ℕ) (a : ℕ) where
     plain_walk : rated_walk_of P power_up_rate s a ≡ walk_of P s a
@@ -71,8 +71,8 @@ module _ (P : ℕ) where
         rw (plain_read P s a) (either_way (eqb (image_fault s (leb (8 * length s) a)) 0) (λ e. rw e (rate_of_lem (frame_at P s a))) (λ e. rw e))
       where
         rate_of_lem : (t : FrameAnswer) → (rated_answer (plain_form P) (with_prefix 0 t)).rate ≡ 0
-        rate_of_lem (Whole f next) = refl
-        rate_of_lem (Cut h) = refl
+        rate_of_lem (Ok (f, next)) = refl
+        rate_of_lem (Err h) = refl
 
 pub rated_plain : (P : ℕ) (s : List ℕ) (a : ℕ) → RatedPlain P s a
 rated_plain P s a = record { walk = plain_walk P s a; phrase = plain_phrase P s a; taken = plain_taken P s a; rate = no_rate P s a }

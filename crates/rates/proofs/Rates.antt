@@ -12,7 +12,7 @@ use Rattle.base.proofs.Booleans.{by_test}
 use Rattle.rom.specs.Bits.{field}
 use Rattle.rom.specs.Reader.{frame_from}
 use Rattle.rom.specs.Prefix.{with_prefix}
-use Rattle.rom.specs.declared.reader.FrameAnswer.{FrameAnswer}
+use Rattle.rom.specs.Reader.{FrameAnswer}
 use Rattle.rates.specs.Rates.{prefix_bits, rate_of_byte, rate_valid, skipped_with}
 use Rattle.rates.specs.Form.{rate_form, KeepsSome, read_item}
 use Rattle.rates.specs.declared.rate.FrameRate.{FrameRate}

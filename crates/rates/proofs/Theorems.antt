@@ -12,8 +12,8 @@ use Rattle.base.specs.Refusals.{IMAGE, STATE, BEYOND}
 use Rattle.base.proofs.Faults.{NoneApplies}
 use Rattle.rom.specs.Bits.{image_valid}
 use Rattle.rom.specs.Items.{bits_all, sum_of}
-use Rattle.rom.specs.declared.phrases.Walked.{Walked}
-use Rattle.rom.specs.declared.reader.Shortfall.{Shortfall}
+use Rattle.rom.specs.Phrases.{Walked}
+use Rattle.base.specs.declared.refusal.Shortfall.{Shortfall}
 use Rattle.rom.proofs.ItemLaws.{there_read}
 use Rattle.rom.proofs.ItemWalk as walk
 use Rattle.rom.proofs.Prefixed.{prefixed_law, prefixed_unique}

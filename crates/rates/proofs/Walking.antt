@@ -11,13 +11,13 @@ use Rattle.rom.specs.Bits.{field}
 use Rattle.rom.specs.Frames.{is_stop}
 use Rattle.rom.specs.Items.{whole, items_from}
 use Rattle.rom.specs.Prefix.{with_prefix}
-use Rattle.rom.specs.Reader.{shortfall_of, frame_from}
+use Rattle.rom.specs.Reader.{frame_from}
 use Rattle.rom.specs.Phrases.{walk_cut}
 use Rattle.rom.specs.declared.frames.Frame.{Frame}
-use Rattle.rom.specs.declared.reader.FrameAnswer.{FrameAnswer}
-use Rattle.rom.specs.declared.reader.FrameAnswer.TheVariants.{Whole, Cut}
-use Rattle.rom.specs.declared.reader.Shortfall.{Shortfall}
-use Rattle.rom.specs.declared.phrases.Walked.{Walked}
+use Rattle.rom.specs.Reader.{FrameAnswer}
+use Rattle.std.specs.Prelude.{Ok, Err}
+use Rattle.base.specs.declared.refusal.Shortfall.{Shortfall}
+use Rattle.rom.specs.Phrases.{Walked}
 use Rattle.rom.proofs.Decoding.{cut_decoded}
 use Rattle.rom.proofs.ItemLaws.{next_in}
 use Rattle.rom.proofs.ItemWalk as walk
@@ -58,15 +58,15 @@ module _ {P : ℕ} (r : FrameRate) {s : List ℕ} {start at k t : ℕ} (h : Come
   answer : read_item (rate_form r P) s at ≡ with_prefix q a
   answer = read_is P r s at ep eq ea
 
-  pub come_cut : {y : Shortfall} → a ≡ Cut y → walk_cut (shortfall_of a) ≡ rated_over (rate_form r P) s start (all P r s start)
+  pub come_cut : {y : Shortfall} → a ≡ Err y → walk_cut y ≡ rated_over (rate_form r P) s start (all P r s start)
   come_cut c =
-      let x = ap shortfall_of c ∙ (cut_decoded P s (at + p) at (sym c ∙ ea)).0 in
+      let x = (cut_decoded P s (at + p) at (sym c ∙ ea)).0 in
       let b : start + (at - start) ≡ at = omega (arith, h.passed) in
       ap walk_cut (x ∙ rw (b, ep))
       ∙ over_is P r s start
       (walk.come_cut (item_code (rate_form r P)) _ _ _ s _ (prefixed_law (prefix_bits r) P s) start h (answer ∙ ap (with_prefix q) c))
 
-  module _ {f : Frame} {n : ℕ} (w : a ≡ Whole f n) where
+  module _ {f : Frame} {n : ℕ} (w : a ≡ Ok (f, n)) where
     item : read_item (rate_form r P) s at ≡ whole (q, f) n
     item = answer ∙ ap (with_prefix q) w
 

@@ -5,7 +5,7 @@ use Rattle.rom.specs.Items.{Code, ItemAnswer}
 use Rattle.rom.specs.Prefix.{prefixed_code, read_prefixed}
 use Rattle.rom.specs.Reader.{short_of}
 use Rattle.rom.specs.declared.frames.Frame.{Frame}
-use Rattle.rom.specs.declared.reader.Shortfall.{Shortfall}
+use Rattle.base.specs.declared.refusal.Shortfall.{Shortfall}
 use Rattle.rates.specs.Rates.{prefix_bits, skipped_with}
 use Rattle.rates.specs.declared.rate.FrameRate.{FrameRate}
 

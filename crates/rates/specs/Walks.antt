@@ -1,19 +1,19 @@
 -- The walk told v and rr, its part, and the frame taken told v (02, §5). P is the width of the pitch field.
-use Rattle.std.specs.Prelude.{Bool, not, cond, List, [], ◌∷◌, ℕ, ◌+◌, ◌*◌, leb, length}
+use Rattle.std.specs.Prelude.{Option, Some, None, Result, Ok, Err, Bool, not, cond, List, [], ◌∷◌, ℕ, ◌+◌, ◌*◌, leb, length}
+use Rattle.base.specs.Answers.{number_of, no_shortfall, shortfall_of}
 use Rattle.base.specs.Refusals.{TAKEN, BEYOND, IMAGE, STATE, NO_PHRASE, first_fault, unless_fault}
 use Rattle.base.specs.Units.{frames, intervals, samples_of}
+use Rattle.base.specs.declared.refusal.Refusal.{Refusal}
+use Rattle.base.specs.declared.refusal.Shortfall.{Shortfall}
 use Rattle.rom.specs.Bits.{image_valid}
 use Rattle.rom.specs.Frames.{bit_count}
 use Rattle.rom.specs.Items.{ItemAnswer, whole, cut, items_from, has_stop, bits_all, sum_of}
-use Rattle.rom.specs.Phrases.{walk_refused, walk_cut, part_of}
-use Rattle.rom.specs.Reader.{no_shortfall}
-use Rattle.rom.specs.declared.frames.MaybeFrame.TheVariants.{Some, None}
-use Rattle.rom.specs.declared.phrases.Walked.{Walked}
-use Rattle.rom.specs.declared.reader.Shortfall.{Shortfall}
+use Rattle.rom.specs.Phrases.{Walked, walk_refused, walk_cut, part_of}
+use Rattle.rom.specs.declared.frames.Frame.{Frame}
+use Rattle.rom.specs.declared.reader.Taken.{Taken}
 use Rattle.rates.specs.Rates.{rate_valid}
 use Rattle.rates.specs.Form.{Form, rate_form, Item, item_code, read_item, short_at, kept_intervals}
 use Rattle.rates.specs.declared.rate.FrameRate.{FrameRate}
-use Rattle.rates.specs.declared.walks.RatedTaken.{RatedTaken}
 
 -- the fault of a call told a rate: 3, then 4 where the rate is out of range, then 2 where what is asked for lies beyond the end
 abbrev pub rate_fault : List ℕ → FrameRate → Bool → ℕ
@@ -54,6 +54,15 @@ rated_phrase_of P r s a = let w = rated_walk_of P r s a in part_of s a w.refusal
 
 -- ---- the frame taken
 
+-- what taking a frame at a bit returns: the refusal number, the rate bits' value, the frame or none, the bits of both, and with 10 how
+-- short the image is
+pub record RatedTaken : Type 0 where
+  pub refusal : ℕ
+  pub rate : ℕ
+  pub frame : Option Frame
+  pub bits : ℕ
+  pub short : Shortfall
+
 -- refused: no frame, and zero for each number but those of number 10
 abbrev pub no_rated : ℕ → Shortfall → RatedTaken
 no_rated n h = record { refusal = n; rate = 0; frame = None; bits = 0; short = h }
@@ -73,3 +82,8 @@ unfoldable pub rated_taken_of : ℕ → ℕ → List ℕ → ℕ → RatedTaken
 rated_taken_of P v s bit =
     let F = rate_form (only_v v) P in
     unless_fault (rate_fault s (only_v v) (leb (8 * length s) bit)) (λ n. no_rated n no_shortfall) (rated_answer F (read_item F s bit))
+
+-- what an answer of the operation says
+abbrev pub rated_taken_answer : Result Taken Refusal → RatedTaken
+rated_taken_answer (Ok t) = record { refusal = TAKEN; rate = t.rate; frame = Some t.frame; bits = t.bits; short = no_shortfall }
+rated_taken_answer (Err r) = no_rated (number_of r) (shortfall_of r)

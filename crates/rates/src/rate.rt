@@ -5,7 +5,7 @@ ghost use Rattle.rates.specs.Rates.{power_up_rate, rate_valid, rate_of_byte, pre
 use base::units::Intervals;
 
 // The frame mode v and the rate rr, as in the byte x0x0xvrr.
-#[derive(Clone, Copy)]
+#[derive(Clone, Copy, Debug, PartialEq, Eq)]
 pub struct FrameRate {
     pub v: u8,
     pub rr: u8,
@@ -45,9 +45,7 @@ impl FrameRate {
     pub fn skips(self, bits: u8) -> Intervals
         ensures { result ≡ skipped_with self bits }
     {
-        if self.v == 0 {
-            return Intervals::of(2 * (self.rr % 4) as u64);
-        }
-        Intervals::of(2 * (bits % 4) as u64)
+        let rate = if self.v == 0 { self.rr } else { bits };
+        Intervals::of(2 * u64::from(rate % 4))
     }
 }

@@ -1,12 +1,10 @@
 -- What a sample step reports (01, "Sound"), and what it may ask of the sound. P is the width of the pitch field.
-use Rattle.std.specs.Prelude.{cond, List, ◌∷◌, ℕ, ◌<◌}
+use Rattle.std.specs.Prelude.{Option, Some, None, cond, List, ◌∷◌, ℕ, ◌<◌}
 use Rattle.base.specs.Units.{intervals_per_frame}
 use Rattle.rom.specs.Frames.{is_stop, Proper, numbers_of}
 use Rattle.rom.specs.declared.frames.Frame.{Frame}
 use Rattle.rom.specs.declared.frames.Frame.TheVariants.{Stop}
-use Rattle.rom.specs.declared.frames.MaybeFrame.{MaybeFrame}
-use Rattle.rom.specs.declared.reader.Shortfall.{Shortfall}
-use Rattle.rom.specs.declared.frames.MaybeFrame.TheVariants.{Some, None}
+use Rattle.base.specs.declared.refusal.Shortfall.{Shortfall}
 use Rattle.reports.specs.Types.{Details, Report, NoReport, FrameReport, StopReport, RanOut, Action, Silent, Rest, Begin, Interpolate, Continue}
 
 -- each step reports one of: nothing, frame, stop, ran out, with the numbers 0, 1, 2, 3
@@ -17,7 +15,7 @@ report_number StopReport = 2
 report_number RanOut = 3
 
 -- and its frame, if any
-abbrev pub report_frame : Report → MaybeFrame
+abbrev pub report_frame : Report → Option Frame
 report_frame NoReport = None
 report_frame (FrameReport f) = Some f
 report_frame StopReport = Some Stop

@@ -4,12 +4,12 @@
 ghost use Rattle.std.specs.Prelude.{◌≡◌};
 ghost use Rattle.reports.specs.Reports.{report_number, report_frame, frame_report, of_frame, no_details, rated, out_of_rom, out_of_fifo};
 
+use base::refusal::Shortfall;
 use base::units::Intervals;
-use rom::frames::{Frame, MaybeFrame, is_stop};
-use rom::reader::Shortfall;
+use rom::frames::{Frame, is_stop};
 
 // What a step reports.
-#[derive(Clone, Copy)]
+#[derive(Clone, Copy, Debug, PartialEq, Eq)]
 pub enum Report {
     Nothing,
     Frame(Frame),
@@ -18,7 +18,7 @@ pub enum Report {
 }
 
 // What a step gives besides its report; zeros where nothing applies. Later changes add their numbers here.
-#[derive(Clone, Copy)]
+#[derive(Clone, Copy, Debug, Default, PartialEq, Eq)]
 pub struct Details {
     // The rate bits of the frame reported, where it has any.
     pub rate: u8,
@@ -36,13 +36,16 @@ impl Details {
     pub fn none() -> Details
         ensures { result ≡ no_details }
     {
-        Self::rated(0)
+        Details::default()
     }
 
     pub fn rated(rate: u8) -> Details
         ensures { result ≡ rated rate }
     {
-        Self::of_frame(rate, 0)
+        Details {
+            rate,
+            ..Details::default()
+        }
     }
 
     pub fn of_frame(rate: u8, thrown: usize) -> Details
@@ -50,10 +53,8 @@ impl Details {
     {
         Details {
             rate,
-            begun: 0,
-            used_up: 0,
-            missing: 0,
             thrown,
+            ..Details::default()
         }
     }
 
@@ -61,11 +62,9 @@ impl Details {
         ensures { result ≡ out_of_rom short }
     {
         Details {
-            rate: 0,
             begun: short.begun,
-            used_up: 0,
             missing: short.missing,
-            thrown: 0,
+            ..Details::default()
         }
     }
 
@@ -73,17 +72,15 @@ impl Details {
         ensures { result ≡ out_of_fifo used_up missing }
     {
         Details {
-            rate: 0,
-            begun: 0,
             used_up,
             missing,
-            thrown: 0,
+            ..Details::default()
         }
     }
 }
 
 // What a step asks of the sound.
-#[derive(Clone, Copy)]
+#[derive(Clone, Copy, Debug, PartialEq, Eq)]
 pub enum Action {
     // Stay as it is, and give no sound.
     Silent,
@@ -109,14 +106,13 @@ impl Report {
         }
     }
 
-    pub fn frame(self) -> MaybeFrame
+    pub fn frame(self) -> Option<Frame>
         ensures { result ≡ report_frame self }
     {
         match self {
-            Report::Nothing => MaybeFrame::None,
-            Report::Frame(frame) => MaybeFrame::Some(frame),
-            Report::Stop => MaybeFrame::Some(Frame::Stop),
-            Report::RanOut => MaybeFrame::None,
+            Report::Frame(frame) => Some(frame),
+            Report::Stop => Some(Frame::Stop),
+            Report::Nothing | Report::RanOut => None,
         }
     }
 }
@@ -125,8 +121,7 @@ impl Report {
 pub fn report_frame(frame: Frame) -> Report
     ensures { result ≡ frame_report frame }
 {
-    let stop = is_stop(frame);
-    if stop {
+    if is_stop(frame) {
         Report::Stop
     } else {
         Report::Frame(frame)

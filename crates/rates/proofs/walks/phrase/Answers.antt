@@ -1,11 +1,10 @@
 use mathlib.Core.Path.{◌∙◌}
-use Rattle.rates.proofs.Answers.{phrase_room, phrase_is}
+use Rattle.rates.proofs.Answers.{accepted_room, phrase_is}
 use Rattle.rates.proofs.walks.phrase.Goals as goal
 
 pub part_of-requires : goal.part_of-requires
-part_of-requires c =
-    λ h. phrase_room _ _ _ _ c.walk-walked.ensures h
+part_of-requires c = accepted_room _ _ _ _ _ c.walk.ensures
 
 pub returns : goal.returns
 returns c =
-    c.part_of.ensures ∙ phrase_is _ _ _ _ c.walk-walked.ensures
+    c.part_of.ensures ∙ phrase_is _ _ _ _ c.walk.ensures
