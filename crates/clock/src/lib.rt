@@ -7,7 +7,8 @@ ghost use Rattle.clock.specs.Counters.{power_up_clock, stopped, started, begun, 
 
 use base::units::{Frames, Intervals, Samples};
 
-#[derive(Clone, Copy)]
+// No invariant keeps the counters in their ranges: a host may hold a chip with any, and it is refused with 4.
+#[derive(Clone, Copy, Debug, PartialEq, Eq)]
 pub struct Clock {
     pub sounding: bool,
     pub sample: Samples,
@@ -30,49 +31,40 @@ impl Clock {
         }
     }
 
+    // A silent chip's counters are those of power-up.
     pub fn stop(self) -> Clock
         ensures { result ≡ stopped self }
     {
-        let mut clock = self;
-        clock.sounding = false;
-        clock.sample = Samples::of(0);
-        clock.interval = Intervals::of(0);
-        clock
+        Clock::power_up()
     }
 
     pub fn start(self) -> Clock
         ensures { result ≡ started self }
     {
-        let mut clock = self;
-        clock.sounding = true;
-        clock.sample = Samples::of(0);
-        clock.interval = Intervals::of(0);
-        clock
+        Clock {
+            sounding: true,
+            ..self.stop()
+        }
     }
 
     // A frame begins at this interval, and so skips those before it.
     pub fn begin_at(self, interval: Intervals) -> Clock
         ensures { result ≡ begun interval self }
     {
-        let mut clock = self;
-        clock.interval = interval;
-        clock
+        Clock { interval, ..self }
     }
 
-    // `count_by`, `count` and `left_of_interval` take counters in their ranges, so that no sum is out of range: a valid chip
-    // has such.
+    // `count_by` and `count` take counters in their ranges, so that no sum is out of range.
     pub fn count_by(self, more: Samples) -> Clock
         requires { (self.sample.0 ≤ last_sample) × (self.interval.0 ≤ last_interval) × (more.0 ≤ samples_per_interval) }
         ensures { result ≡ counted_by more.0 self }
     {
-        let sample = self.sample;
-        let interval = self.interval;
-        let next = sample.plus(more);
-        let carried = interval.plus(next.whole_intervals());
+        let next = self.sample + more;
+        let carried = self.interval + next.whole_intervals();
         Clock {
-            sounding: self.sounding,
             sample: next.within_interval(),
             interval: carried.within_frame(),
+            ..self
         }
     }
 
@@ -86,39 +78,31 @@ impl Clock {
     pub fn interval_begins(self) -> bool
         ensures { result ≡ interval_begins self }
     {
-        let sample = self.sample;
-        sample.count() == 0
+        self.sample.count() == 0
     }
 
     pub fn frame_begins(self) -> bool
         ensures { result ≡ frame_begins self }
     {
-        let interval = self.interval;
-        self.interval_begins() & (interval.count() == 0)
+        self.interval_begins() & (self.interval.count() == 0)
     }
 
     // The samples left of an interval in which one has been made.
     pub fn left_of_interval(self) -> Samples
-        requires { self.sample.0 ≤ last_sample }
         ensures { result.0 ≡ left_of_interval self }
     {
-        let sample = self.sample;
-        let made = sample.count();
-        if made == 0 {
-            Samples::of(0)
-        } else {
-            Samples::of(Intervals::SAMPLES - made)
+        if self.interval_begins() {
+            return Samples::of(0);
         }
+        Samples::of(Intervals::SAMPLES).less(self.sample)
     }
 
     // Whether the counters are in their ranges. `speaks` says whether the mode is a speaking one.
     pub fn valid(self, speaks: bool) -> bool
         ensures { result ≡ clock_valid speaks self }
     {
-        let sample = self.sample;
-        let interval = self.interval;
-        (sample.count() <= Self::LAST_SAMPLE)
-            & (interval.count() <= Self::LAST_INTERVAL)
+        (self.sample.count() <= Self::LAST_SAMPLE)
+            & (self.interval.count() <= Self::LAST_INTERVAL)
             & (self.sounding | (self.frame_begins() & !speaks))
     }
 }
