@@ -6,8 +6,9 @@ ghost use Rattle.address.specs.Addresses.{position_limit, address_limit, nibbles
 
 use base::bytes::byte_at;
 
-// The position in bits, and the nibble of the address that the next load sets.
-#[derive(Clone, Copy)]
+// The position in bits, and the nibble of the address that the next load sets. No invariant keeps them in their ranges: a host may hold a
+// chip with any, and it is refused with 4.
+#[derive(Clone, Copy, Debug, PartialEq, Eq)]
 pub struct AddressRegister {
     pub position: usize,
     pub next_nibble: u8,
@@ -18,13 +19,7 @@ fn weight(nibble: u8) -> usize
     requires { nibble < nibbles }
     ensures { (result ≡ 16 ^ nibble) × (1 ≤ result) × (result ≤ 65536) }
 {
-    match nibble {
-        0 => 1,
-        1 => 16,
-        2 => 256,
-        3 => 4096,
-        _ => 65536,
-    }
+    16usize.pow(u32::from(nibble))
 }
 
 // The address with one nibble set.
@@ -34,7 +29,8 @@ fn with_nibble(address: usize, nibble: u8, value: u8) -> usize
 {
     let w = weight(nibble);
     let above = 16 * w;
-    (address / above * above + value as usize * w + address % w) % AddressRegister::ADDRESS_LIMIT
+    (address / above * above + usize::from(value) * w + address % w)
+        % AddressRegister::ADDRESS_LIMIT
 }
 
 // Where a branch from a byte address leads.
@@ -42,10 +38,9 @@ fn branch_address(image: &[u8], address: usize) -> usize
     requires { address ≤ address_limit }
     ensures { result ≡ branch_address image.now address }
 {
-    let low = byte_at(image, address) as usize;
-    let high = byte_at(image, address + 1) as usize;
+    let word = u16::from_le_bytes([byte_at(image, address), byte_at(image, address + 1)]);
     address / AddressRegister::ROM_SIZE * AddressRegister::ROM_SIZE
-        + (low + 256 * high) % AddressRegister::ROM_SIZE
+        + usize::from(word) % AddressRegister::ROM_SIZE
 }
 
 impl AddressRegister {
@@ -74,10 +69,9 @@ impl AddressRegister {
         ensures { result ≡ loaded self value }
     {
         let address = self.position / 8 % Self::ADDRESS_LIMIT;
-        let nibble = self.next_nibble;
         AddressRegister {
-            position: 8 * with_nibble(address, nibble, value),
-            next_nibble: (nibble + 1) % Self::NIBBLES,
+            position: 8 * with_nibble(address, self.next_nibble, value),
+            next_nibble: (self.next_nibble + 1) % Self::NIBBLES,
         }
     }
 
@@ -108,8 +102,8 @@ impl AddressRegister {
         ensures { result ≡ restarted self }
     {
         AddressRegister {
-            position: self.position,
             next_nibble: 0,
+            ..self
         }
     }
 
@@ -117,10 +111,7 @@ impl AddressRegister {
     pub fn move_to(self, position: usize) -> AddressRegister
         ensures { result ≡ moved_to position self }
     {
-        AddressRegister {
-            position,
-            next_nibble: self.next_nibble,
-        }
+        AddressRegister { position, ..self }
     }
 
     pub fn valid(self) -> bool
