@@ -2,35 +2,50 @@
 // `rom::phrases` and `rates::walks`.
 #![tactic(auto)]
 
-ghost use Rattle.std.specs.Prelude.{◌≡◌};
+ghost use Rattle.std.specs.Prelude.{◌≡◌, ◌+◌, ◌*◌, ◌≤◌, length};
+ghost use Rattle.base.specs.Refusals.{TAKEN};
+ghost use Rattle.rom.specs.Bits.{image_limit};
 ghost use Rattle.rom.specs.Frames.{pitch_width};
-ghost use Rattle.rom.specs.Phrases.{walk_of, phrase_of};
+ghost use Rattle.rom.specs.Phrases.{part_of, walk_of, phrase_of};
 ghost use Rattle.rates.specs.Walks.{rated_walk_of, rated_phrase_of};
+ghost use Rattle.phrase_walk.specs.Answers.{numbers_of_answer, part_of_answer};
 
+use base::refusal::Refusal;
 use rates::rate::FrameRate;
-use rom::phrases::{Walked, part_of, walk};
+use rom::phrases::{Extent, part_of, walk};
 
-// The part of the image through the byte with the stop's last bit, empty where the walk is refused, and the walk's numbers.
-#[derive(Clone, Copy)]
-pub struct PhraseWalk<'a> {
+// A phrase: the part of the image through the byte with the stop's last bit, and its extent.
+#[derive(Clone, Copy, Debug)]
+pub struct Phrase<'a> {
     pub part: &'a [u8],
-    pub walked: Walked,
+    pub extent: Extent,
+}
+
+// The phrase that a walk has found from a byte address on.
+fn found<'a>(image: &'a [u8], address: usize, extent: Extent) -> Phrase<'a>
+    requires { (8 * address + extent.bits ≤ 8 * length image.now) × (length image.now ≤ image_limit) }
+    ensures { (result.extent ≡ extent) × (result.part.now ≡ part_of image.now address TAKEN extent.bits) }
+{
+    Phrase {
+        part: part_of(image, address, Ok(extent)),
+        extent,
+    }
 }
 
 // Operation: the walk from a byte address.
-pub fn walk_phrase<'a>(image: &'a [u8], address: usize) -> PhraseWalk<'a>
-    ensures { (result.walked ≡ walk_of pitch_width image.now address) × (result.part.now ≡ phrase_of pitch_width image.now address) }
+pub fn walk_phrase<'a>(image: &'a [u8], address: usize) -> Result<Phrase<'a>, Refusal>
+    ensures { (numbers_of_answer result ≡ walk_of pitch_width image.now address) × (part_of_answer result ≡ phrase_of pitch_width image.now address) }
 {
-    let walked = walk(image, address);
-    let part = part_of(image, address, walked.refusal, walked.bits);
-    PhraseWalk { part, walked }
+    Ok(found(image, address, walk(image, address)?))
 }
 
 // Operation: the walk from a byte address, told v and rr.
-pub fn walk_phrase_rated<'a>(image: &'a [u8], address: usize, rate: FrameRate) -> PhraseWalk<'a>
-    ensures { (result.walked ≡ rated_walk_of pitch_width rate image.now address) × (result.part.now ≡ rated_phrase_of pitch_width rate image.now address) }
+pub fn walk_phrase_rated<'a>(
+    image: &'a [u8],
+    address: usize,
+    rate: FrameRate,
+) -> Result<Phrase<'a>, Refusal>
+    ensures { (numbers_of_answer result ≡ rated_walk_of pitch_width rate image.now address) × (part_of_answer result ≡ rated_phrase_of pitch_width rate image.now address) }
 {
-    let walked = rates::walks::walk(image, address, rate);
-    let part = part_of(image, address, walked.refusal, walked.bits);
-    PhraseWalk { part, walked }
+    Ok(found(image, address, rates::walks::walk(image, address, rate)?))
 }
