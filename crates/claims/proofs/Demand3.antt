@@ -7,7 +7,7 @@ use lib.ListN.{length}
 use Rattle.rom.specs.Frames.{pitch_width}
 use Rattle.rom.specs.Phrases.{PhraseAt, frames_at}
 use Rattle.rom.specs.declared.frames.Frame.{Frame}
-use Rattle.rom.specs.declared.phrases.Walked.{Walked}
+use Rattle.rom.specs.Phrases.{Walked}
 use Rattle.rom.proofs.Theorems.{walk_accepts, walk_counts, phrase_unique, frames_read}
 use Rattle.rates.specs.Rates.{power_up_rate}
 use Rattle.rates.specs.Form.{plain}

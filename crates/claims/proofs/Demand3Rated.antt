@@ -6,7 +6,7 @@ use mathlib.Core.List.{List, ◌++◌}
 use Prim.Native.Nat.{ℕ, ◌+◌, ◌*◌}
 use lib.ListN.{length}
 use Rattle.rom.specs.Frames.{pitch_width}
-use Rattle.rom.specs.declared.phrases.Walked.{Walked}
+use Rattle.rom.specs.Phrases.{Walked}
 use Rattle.rates.specs.Rates.{power_up_rate, rate_valid}
 use Rattle.rates.specs.Walks.{items_at}
 use Rattle.rates.proofs.Theorems.{rated_accepts, rated_counts, rated_unique, rated_there}

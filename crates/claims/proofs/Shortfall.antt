@@ -11,7 +11,7 @@ use Rattle.base.proofs.Booleans.{by_test}
 use Rattle.rom.specs.Bits.{image_valid}
 use Rattle.rom.specs.Frames.{pitch_width}
 use Rattle.rom.specs.Items.{has_stop, There, phrase, none}
-use Rattle.rom.specs.declared.phrases.Walked.{Walked}
+use Rattle.rom.specs.Phrases.{Walked}
 use Rattle.rom.proofs.ItemLaws.{has_stop_lem}
 use Rattle.reports.specs.Reports.{out_of_rom}
 use Rattle.reports.specs.declared.Report.TheVariants.{RanOut}

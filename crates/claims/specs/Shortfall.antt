@@ -5,7 +5,7 @@ use Rattle.rom.specs.Bits.{image_valid}
 use Rattle.rom.specs.Frames.{pitch_width}
 use Rattle.rom.specs.Phrases.{FramesThere, walk_of}
 use Rattle.rom.specs.declared.frames.Frame.{Frame}
-use Rattle.rom.specs.declared.phrases.Walked.{Walked}
+use Rattle.rom.specs.Phrases.{Walked}
 use Rattle.reports.specs.Reports.{out_of_rom}
 use Rattle.reports.specs.declared.Report.TheVariants.{RanOut}
 use Rattle.rates.specs.Form.{Item}

@@ -9,7 +9,7 @@ use lib.ListN.{length, take, drop, replicate, length-append, length-take, length
 use lib.Seq.{take-suc-set, take-add, take-append-le, drop-append-le, drop-append-add, drop-drop, length-take-le}
 use Rattle.rom.specs.Bits.{digits, bits_of_bytes}
 use Rattle.rom.specs.Items.{ItemAnswer, whole, cut}
-use Rattle.rom.specs.declared.reader.Shortfall.{Shortfall}
+use Rattle.base.specs.declared.refusal.Shortfall.{Shortfall}
 use Rattle.rom.proofs.AllBits.{begins_is}
 use Rattle.rom.proofs.Encoding.{length_digits}
 use Rattle.rom.proofs.Prefixed.{prefixed_cut, prefixed_law}

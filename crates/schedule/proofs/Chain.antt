@@ -9,7 +9,7 @@ use lib.ListN.{length}
 use Rattle.base.proofs.Booleans.{by_test}
 use Rattle.rom.specs.Frames.{is_stop}
 use Rattle.rom.specs.Items.{ItemAnswer, whole, cut, items_from, items_of, There}
-use Rattle.rom.specs.declared.reader.Shortfall.{Shortfall}
+use Rattle.base.specs.declared.refusal.Shortfall.{Shortfall}
 use Rattle.rom.proofs.Encoding.{begins_room}
 use Rattle.rom.proofs.ItemLaws.{there_inside}
 use Rattle.rom.proofs.Prefixed.{prefixed_law, prefixed_read}

@@ -13,7 +13,7 @@ use Rattle.base.specs.Steps.{state_after}
 use Rattle.base.specs.Units.{intervals, samples_per_interval}
 use Rattle.rom.specs.Frames.{is_stop}
 use Rattle.rom.specs.Items.{ItemAnswer, whole, cut}
-use Rattle.rom.specs.declared.reader.Shortfall.{Shortfall}
+use Rattle.base.specs.declared.refusal.Shortfall.{Shortfall}
 use Rattle.rates.specs.Form.{Form, read_item, KeepsSome, Item}
 use Rattle.schedule.specs.Form.{lasting}
 use Rattle.schedule.specs.Types.{Speech, Clock, Spoken}

@@ -12,11 +12,10 @@ use Rattle.rom.specs.Bits.{field}
 use Rattle.rom.specs.Frames.{is_stop}
 use Rattle.rom.specs.Items.{ItemAnswer, whole, cut}
 use Rattle.rom.specs.Prefix.{with_prefix}
-use Rattle.rom.specs.Reader.{shortfall_of, frame_from}
+use Rattle.std.specs.Prelude.{Ok, Err}
+use Rattle.rom.specs.Reader.{FrameAnswer, frame_from}
 use Rattle.rom.specs.declared.frames.Frame.{Frame}
-use Rattle.rom.specs.declared.reader.FrameAnswer.{FrameAnswer}
-use Rattle.rom.specs.declared.reader.FrameAnswer.TheVariants.{Whole, Cut}
-use Rattle.rom.specs.declared.reader.Shortfall.{Shortfall}
+use Rattle.base.specs.declared.refusal.Shortfall.{Shortfall}
 use Rattle.clock.specs.Counters.{begun, counted, frame_begins}
 use Rattle.fifo.specs.Buffer.{fifo_size, emptied, used_up, held_bytes}
 use Rattle.reports.specs.Reports.{frame_report, no_details, of_frame, rated, out_of_rom}
@@ -52,11 +51,11 @@ module _ (P : ℕ) (k : Control) (s : List ℕ) (at : ℕ) {r : FrameRate} {Q q 
   answer : with_prefix q x ≡ read_item (form_of P k) s at
   answer = sym (read_is P (rate_of k.device) s at (e ∙ ap prefix_bits d) b a)
 
-  pub item_whole : {f : Frame} {next : ℕ} → x ≡ Whole f next → whole (q, f) next ≡ read_item (form_of P k) s at
+  pub item_whole : {f : Frame} {next : ℕ} → x ≡ Ok (f, next) → whole (q, f) next ≡ read_item (form_of P k) s at
   item_whole w = ap (with_prefix q) (sym w) ∙ answer
 
-  pub item_cut : {h : Shortfall} → x ≡ Cut h → cut (shortfall_of x) ≡ read_item (form_of P k) s at
-  item_cut w = ap (λ y. cut (shortfall_of y)) w ∙ ap (with_prefix q) (sym w) ∙ answer
+  pub item_cut : {h : Shortfall} → x ≡ Err h → cut h ≡ read_item (form_of P k) s at
+  item_cut w = ap (with_prefix q) (sym w) ∙ answer
 
 module _ (P : ℕ) (image : List ℕ) (k : Control) where
   pub rom_whole : {r : Moved} {i : Item} {next : ℕ} → whole i next ≡ read_item (form_of P k) image k.address.position
@@ -72,19 +71,19 @@ module _ (P : ℕ) (image : List ℕ) (k : Control) where
   in_mode e r = r ∙ ap (λ (m : Mode). boundary_in P m image k) (sym e)
 
   -- a step of the control
-  pub advanced_silent : {e : Details} → k.clock.sounding ≡ false → e ≡ no_details
-      → record { control = k; action = Silent; report = NoReport; details = e } ≡ advanced_from P image k
+  pub advanced_silent : {r : Moved} → k.clock.sounding ≡ false → r ≡ record { control = k; action = Silent; report = NoReport; details = no_details }
+      → r ≡ advanced_from P image k
   unfolding advanced_from
-  advanced_silent s e = rw e (sym (cond_false _ _ _ s))
+  advanced_silent s r = r ∙ sym (cond_false _ _ _ s)
 
   pub advanced_boundary : {r : Moved} → k.clock.sounding ≡ true → frame_begins k.clock ≡ true → r ≡ boundary_in P k.mode image k → r ≡ advanced_from P image k
   unfolding advanced_from
   advanced_boundary s t r = r ∙ sym (cond_true _ _ _ s ∙ cond_true _ _ _ t)
 
-  pub advanced_within : {d : Control} {a : Action} {e : Details} → k.clock.sounding ≡ true → frame_begins k.clock ≡ false → d ≡ with_clock (counted k.clock) k
-      → a ≡ within k.clock → e ≡ no_details → record { control = d; action = a; report = NoReport; details = e } ≡ advanced_from P image k
+  pub advanced_within : {r : Moved} {d : Control} {a : Action} → k.clock.sounding ≡ true → frame_begins k.clock ≡ false → d ≡ with_clock (counted k.clock) k
+      → a ≡ within k.clock → r ≡ record { control = d; action = a; report = NoReport; details = no_details } → r ≡ advanced_from P image k
   unfolding advanced_from
-  advanced_within s t r a e = rw (r, a, e) (sym (cond_true _ _ _ s ∙ cond_false _ _ _ t))
+  advanced_within s t d a r = r ∙ rw (d, a) (sym (cond_true _ _ _ s ∙ cond_false _ _ _ t))
 
 module _ (P : ℕ) (k : Control) {r : Moved} where
   module _ {i : Item} {next : ℕ} (e : whole i next ≡ read_item (form_of P k) (held_bytes k.fifo) k.fifo.used_bits) where

@@ -3,4 +3,4 @@ use Rattle.speech.proofs.advance.advance.Goals as goal
 
 pub advance_from-requires : goal.advance_from-requires
 advance_from-requires c =
-    (c.requires.0, c.requires.1, rw (c.less_busy-next.ensures, c.of.ensures) (less_keeps_valid _ _ c.requires.2))
+    (c.requires.0, rw (c.less_busy.ensures, c.of.ensures) (less_keeps_valid _ _ c.requires.1))

@@ -5,8 +5,8 @@ use Rattle.speech.proofs.advance.boundary.Goals as goal
 
 pub from_rom-requires : goal.from_rom-requires
 from_rom-requires c =
-    omega (arith, c.requires.0, c.requires.1, valid_ranges _ c.requires.2)
+    omega (arith, c.requires.0, valid_ranges _ c.requires.1)
 
 pub from_fifo-requires : goal.from_fifo-requires
 from_fifo-requires c =
-    omega (arith, c.requires.1, external_fifo _ c.in-External.is c.requires.2, valid_ranges _ c.requires.2)
+    omega (arith, external_fifo _ c.in-External.is c.requires.1, valid_ranges _ c.requires.1)

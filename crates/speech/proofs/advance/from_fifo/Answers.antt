@@ -20,8 +20,9 @@ overflow_sub-level c =
     let sixteen : length f.bytes ≡ 16 = search rules in
     let array : length c.read_bytes-bytes.result ≡ 16 =
     ap (λ (l : List ℕ). length l) c.read_bytes-bytes.ensures ∙ length_read f.order f.bytes ∙ sixteen in
-    let lent = lent_length f.level c.read_bytes-bytes.result array c.requires.2 in
-    omega (arith, (whole_frame_lem _ (take f.level c.read_bytes-bytes.result) _ _ c.frame_from-answer.ensures c.in-Whole.is).inside, lent)
+    let lent = lent_length f.level c.read_bytes-bytes.result array c.requires.1 in
+    let read = rw c.from-level.ensures at c.frame_from.ensures in
+    omega (arith, (whole_frame_lem _ _ _ _ read c.in-Ok.is).inside, lent, c.from-level.ensures)
 
 pub use_up-requires : goal.use_up-requires
 use_up-requires c =
@@ -29,5 +30,6 @@ use_up-requires c =
     let sixteen : length f.bytes ≡ 16 = search rules in
     let array : length c.read_bytes-bytes.result ≡ 16 =
     ap (λ (l : List ℕ). length l) c.read_bytes-bytes.ensures ∙ length_read f.order f.bytes ∙ sixteen in
-    let lent = lent_length f.level c.read_bytes-bytes.result array c.requires.2 in
-    (omega (arith, (whole_frame_lem _ (take f.level c.read_bytes-bytes.result) _ _ c.frame_from-answer.ensures c.in-Whole.is).inside, lent), c.requires.2)
+    let lent = lent_length f.level c.read_bytes-bytes.result array c.requires.1 in
+    let read = rw c.from-level.ensures at c.frame_from.ensures in
+    (omega (arith, (whole_frame_lem _ _ _ _ read c.in-Ok.is).inside, lent), c.requires.1)
