@@ -1,5 +1,6 @@
 // The check of a voice file, with the width of the pitch field and the version as parameters.
 ghost use Rattle.std.specs.Prelude.{◌≡◌, ◌≤◌, length};
+ghost use Rattle.base.specs.Answers.{number_of_answer};
 ghost use Rattle.rom.specs.Frames.{pitch_width};
 ghost use Rattle.voice.specs.Layout.{count_at};
 ghost use Rattle.voice.specs.Check.{version, size_fault, length_fault, version_fault, unsigned_valid, k_valid, entry_valid, table_valid, value_fault, pulse_fault, voice_fault};
@@ -8,8 +9,8 @@ use crate::layout::{
     LENGTH_BYTES, Table, count_at, entries, entry_within, length_field, length_with, signed_word,
 };
 use base::bytes::byte_at;
-use base::refusal::{TAKEN, VOICE_LENGTH, VOICE_PULSE, VOICE_SIZE, VOICE_VALUE, VOICE_VERSION};
-use rom::frames::PITCH_BITS;
+use base::refusal::Refusal;
+use rom::frames::PitchWidth;
 
 // The version of the TMS5220 and TMS5200.
 const VERSION: u8 = 1;
@@ -25,19 +26,18 @@ pub const K_MIN: i32 = -512;
 pub const K_MAX: i32 = 511;
 
 // Whether the file has too few bytes or too many.
-fn size_fault(file: &[u8], pitch_bits: usize) -> bool
-    requires { pitch_bits ≤ 8 }
+fn size_fault(file: &[u8], pitch_bits: PitchWidth) -> bool
     ensures { result ≡ size_fault pitch_bits file.now }
 {
     let before = count_at(pitch_bits) + 1;
-    (file.len() < before + 1) | (before + (PULSE_LIMIT as usize) < file.len())
+    (file.len() < before + 1) | (before + usize::from(PULSE_LIMIT) < file.len())
 }
 
 // Whether the length field is not the size minus 2.
 fn length_fault(file: &[u8]) -> bool
     ensures { result ≡ length_fault file.now }
 {
-    length_field(file) as usize + LENGTH_BYTES != file.len()
+    usize::from(length_field(file)) + LENGTH_BYTES != file.len()
 }
 
 // Whether the version byte is not `version`.
@@ -78,8 +78,8 @@ fn entry_valid(table: Table, index: u16, word: u16) -> bool
 }
 
 // Whether every entry of a table is in range, of a file that has its tables whole.
-fn table_valid(file: &[u8], table: Table, pitch_bits: usize) -> bool
-    requires { (pitch_bits ≤ 8) × (count_at pitch_bits ≤ length file.now) }
+fn table_valid(file: &[u8], table: Table, pitch_bits: PitchWidth) -> bool
+    requires { count_at pitch_bits ≤ length file.now }
     ensures { result ≡ table_valid pitch_bits file.now table }
 {
     let n = entries(table, pitch_bits);
@@ -91,8 +91,8 @@ fn table_valid(file: &[u8], table: Table, pitch_bits: usize) -> bool
 }
 
 // Whether a table value is out of range, of such a file.
-fn value_fault(file: &[u8], pitch_bits: usize) -> bool
-    requires { (pitch_bits ≤ 8) × (count_at pitch_bits ≤ length file.now) }
+fn value_fault(file: &[u8], pitch_bits: PitchWidth) -> bool
+    requires { count_at pitch_bits ≤ length file.now }
     ensures { result ≡ value_fault pitch_bits file.now }
 {
     !(table_valid(file, Table::Energy, pitch_bits)
@@ -101,8 +101,7 @@ fn value_fault(file: &[u8], pitch_bits: usize) -> bool
 }
 
 // Whether the pulse count is 0, over 64, or not that of the length field.
-fn pulse_fault(file: &[u8], pitch_bits: usize) -> bool
-    requires { pitch_bits ≤ 8 }
+fn pulse_fault(file: &[u8], pitch_bits: PitchWidth) -> bool
     ensures { result ≡ pulse_fault pitch_bits file.now }
 {
     let count = byte_at(file, count_at(pitch_bits));
@@ -110,32 +109,32 @@ fn pulse_fault(file: &[u8], pitch_bits: usize) -> bool
     (count == 0) | (PULSE_LIMIT < count) | (length != length_with(count, pitch_bits))
 }
 
-// The first fault of a file of a device with that pitch width and that version; 0 without one.
-pub fn voice_fault(file: &[u8], pitch_bits: usize, version: u8) -> u8
-    requires { pitch_bits ≤ 8 }
-    ensures { result ≡ voice_fault pitch_bits version file.now }
+// The first fault of a file of a device with that pitch width and that version.
+#[tactic(auto, unfolding(crate::specs::Check::voice_fault))]
+pub fn voice_fault(file: &[u8], pitch_bits: PitchWidth, version: u8) -> Result<(), Refusal>
+    ensures { number_of_answer result ≡ voice_fault pitch_bits version file.now }
 {
     if size_fault(file, pitch_bits) {
-        return VOICE_SIZE;
+        return Err(Refusal::VoiceSize);
     }
     if length_fault(file) {
-        return VOICE_LENGTH;
+        return Err(Refusal::VoiceLength);
     }
     if version_fault(file, version) {
-        return VOICE_VERSION;
+        return Err(Refusal::VoiceVersion);
     }
     if value_fault(file, pitch_bits) {
-        return VOICE_VALUE;
+        return Err(Refusal::VoiceValue);
     }
     if pulse_fault(file, pitch_bits) {
-        return VOICE_PULSE;
+        return Err(Refusal::VoicePulse);
     }
-    TAKEN
+    Ok(())
 }
 
 // Operation: the check of a voice file.
-pub fn voice_check(file: &[u8]) -> u8
-    ensures { result ≡ voice_fault pitch_width version file.now }
+pub fn voice_check(file: &[u8]) -> Result<(), Refusal>
+    ensures { number_of_answer result ≡ voice_fault pitch_width version file.now }
 {
-    voice_fault(file, PITCH_BITS, VERSION)
+    voice_fault(file, PitchWidth::tms5220(), VERSION)
 }

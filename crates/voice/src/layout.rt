@@ -1,8 +1,9 @@
-// The layout of a voice file, with the width of the pitch field as a parameter. It is at most 8, as the frame reader has it.
+// The layout of a voice file, with the width of the pitch field as a parameter.
 ghost use Rattle.std.specs.Prelude.{◌≡◌, ◌+◌, ◌<◌, ◌≤◌, length};
-ghost use Rattle.voice.specs.Layout.{pitches, be16, twos_complement, signed_byte, signed_word, k_begin, entries, table_start, entry_at, count_at, length_with, length_field};
+ghost use Rattle.voice.specs.Layout.{pitches, be16, signed_byte, signed_word, k_begin, entries, table_start, entry_at, count_at, length_with, length_field};
 
 use base::bytes::byte_at;
+use rom::frames::PitchWidth;
 
 // The tables of words, in the file's order.
 #[derive(Clone, Copy)]
@@ -35,13 +36,7 @@ fn be16(file: &[u8], at: u32) -> u16
     ensures { result ≡ be16 file.now at }
 {
     let i = at as usize;
-    256 * byte_at(file, i) as u16 + byte_at(file, i + 1) as u16
-}
-
-fn wide(byte: u8) -> u16
-    ensures { (result ≡ byte) × (result < 256) }
-{
-    byte as u16
+    u16::from_be_bytes([byte_at(file, i), byte_at(file, i + 1)])
 }
 
 // The big-endian word from byte `at` on, of a file that has both bytes.
@@ -49,7 +44,7 @@ fn be16_within(file: &[u8], at: usize) -> u16
     requires { at + 1 < length file.now }
     ensures { result ≡ be16 file.now at }
 {
-    256 * wide(file[at]) + wide(file[at + 1])
+    u16::from_be_bytes([file[at], file[at + 1]])
 }
 
 pub(crate) fn length_field(file: &[u8]) -> u16
@@ -58,50 +53,38 @@ pub(crate) fn length_field(file: &[u8]) -> u16
     be16(file, 0)
 }
 
-// The bits of n in two's complement: the sign bit, of weight `sign`, counts as -`sign`.
-fn twos_complement(sign: u16, n: u16) -> i32
-    requires { 0 < sign }
-    ensures { result ≡ twos_complement sign n }
-{
-    (n % sign) as i32 - (n / sign % 2 * sign) as i32
-}
-
 // A byte in two's complement.
+#[tactic(auto, unfolding(crate::specs::Layout::twos_complement))]
 pub(crate) fn signed_byte(b: u8) -> i32
     ensures { result ≡ signed_byte b }
 {
-    twos_complement(128, b as u16)
+    i32::from(b.cast_signed())
 }
 
 // A word in two's complement.
+#[tactic(auto, unfolding(crate::specs::Layout::twos_complement))]
 pub(crate) fn signed_word(w: u16) -> i32
     ensures { result ≡ signed_word w }
 {
-    twos_complement(32768, w)
+    i32::from(w.cast_signed())
 }
 
 // Where K number `number` begins among the K values, K1 being number 0; past K10 where they end.
 pub(crate) fn k_begin(number: usize) -> u16
     ensures { result ≡ k_begin number }
 {
-    if number < KS {
-        K_BEGINS[number]
-    } else {
-        K_VALUES
-    }
+    K_BEGINS.get(number).copied().unwrap_or(K_VALUES)
 }
 
 // How many pitches a file has: one for each index of `pitch_bits` bits.
-fn pitches(pitch_bits: usize) -> u16
-    requires { pitch_bits ≤ 8 }
+fn pitches(pitch_bits: PitchWidth) -> u16
     ensures { (result ≡ pitches pitch_bits) × (result ≤ pitches 8) }
 {
-    1 << pitch_bits
+    1 << pitch_bits.bits()
 }
 
 // How many entries a table has.
-pub(crate) fn entries(table: Table, pitch_bits: usize) -> u16
-    requires { pitch_bits ≤ 8 }
+pub(crate) fn entries(table: Table, pitch_bits: PitchWidth) -> u16
     ensures { result ≡ entries pitch_bits table }
 {
     match table {
@@ -112,48 +95,44 @@ pub(crate) fn entries(table: Table, pitch_bits: usize) -> u16
 }
 
 // Where a table starts.
-fn table_start(table: Table, pitch_bits: usize) -> u32
-    requires { pitch_bits ≤ 8 }
+fn table_start(table: Table, pitch_bits: PitchWidth) -> u32
     ensures { (result ≡ table_start pitch_bits table) × (result ≤ count_at 8) }
 {
     match table {
         Table::Energy => ENERGY_START,
         Table::Pitch => PITCH_START,
-        Table::K => PITCH_START + 2 * pitches(pitch_bits) as u32,
+        Table::K => PITCH_START + 2 * u32::from(pitches(pitch_bits)),
     }
 }
 
 // Entry `index` of a table.
-pub(crate) fn entry_at(file: &[u8], table: Table, index: u16, pitch_bits: usize) -> u16
-    requires { pitch_bits ≤ 8 }
+pub(crate) fn entry_at(file: &[u8], table: Table, index: u16, pitch_bits: PitchWidth) -> u16
     ensures { result ≡ entry_at pitch_bits file.now table index }
 {
-    be16(file, table_start(table, pitch_bits) + 2 * index as u32)
+    be16(file, table_start(table, pitch_bits) + 2 * u32::from(index))
 }
 
 // Entry `index` of a table, of a file that has its tables whole: neither byte is tested against the file's end.
-pub(crate) fn entry_within(file: &[u8], table: Table, index: u16, pitch_bits: usize) -> u16
-    requires { (pitch_bits ≤ 8) × (index < entries pitch_bits table) × (count_at pitch_bits ≤ length file.now) }
+pub(crate) fn entry_within(file: &[u8], table: Table, index: u16, pitch_bits: PitchWidth) -> u16
+    requires { (index < entries pitch_bits table) × (count_at pitch_bits ≤ length file.now) }
     ensures { result ≡ entry_at pitch_bits file.now table index }
 {
     be16_within(
         file,
-        table_start(table, pitch_bits) as usize + 2 * index as usize,
+        table_start(table, pitch_bits) as usize + 2 * usize::from(index),
     )
 }
 
 // Where the pulse count stands. The pulses follow it.
-pub(crate) fn count_at(pitch_bits: usize) -> usize
-    requires { pitch_bits ≤ 8 }
+pub(crate) fn count_at(pitch_bits: PitchWidth) -> usize
     ensures { (result ≡ count_at pitch_bits) × (result ≤ count_at 8) }
 {
-    PITCH_START as usize + 2 * pitches(pitch_bits) as usize + 2 * K_VALUES as usize
+    PITCH_START as usize + 2 * usize::from(pitches(pitch_bits)) + 2 * usize::from(K_VALUES)
 }
 
 // The length field of a file with `count` pulses: the bytes of version, tables, pulse count and pulses.
-pub(crate) fn length_with(count: u8, pitch_bits: usize) -> u16
-    requires { pitch_bits ≤ 8 }
+pub(crate) fn length_with(count: u8, pitch_bits: PitchWidth) -> u16
     ensures { result ≡ length_with pitch_bits count }
 {
-    1 + 2 * (ENERGIES + pitches(pitch_bits) + K_VALUES) + 1 + count as u16
+    1 + 2 * (ENERGIES + pitches(pitch_bits) + K_VALUES) + 1 + u16::from(count)
 }

@@ -1,40 +1,38 @@
 // What stands in a voice file at an index: an energy, a pitch, a K value, a pulse.
-ghost use Rattle.std.specs.Prelude.{◌≡◌, ◌≤◌};
+ghost use Rattle.std.specs.Prelude.{◌≡◌};
 ghost use Rattle.voice.specs.Layout.{energy_at, pitch_at, k_at, pulse_at};
 
 use crate::layout::{Table, count_at, entry_at, k_begin, signed_byte, signed_word};
 use base::bytes::byte_at;
+use rom::frames::PitchWidth;
 
-pub fn energy(file: &[u8], index: u8, pitch_bits: usize) -> i32
-    requires { pitch_bits ≤ 8 }
+pub fn energy(file: &[u8], index: u8, pitch_bits: PitchWidth) -> i32
     ensures { result ≡ energy_at pitch_bits file.now index }
 {
-    entry_at(file, Table::Energy, index as u16, pitch_bits) as i32
+    i32::from(entry_at(file, Table::Energy, u16::from(index), pitch_bits))
 }
 
-pub fn pitch(file: &[u8], index: u8, pitch_bits: usize) -> i32
-    requires { pitch_bits ≤ 8 }
+pub fn pitch(file: &[u8], index: u8, pitch_bits: PitchWidth) -> i32
     ensures { result ≡ pitch_at pitch_bits file.now index }
 {
-    entry_at(file, Table::Pitch, index as u16, pitch_bits) as i32
+    i32::from(entry_at(file, Table::Pitch, u16::from(index), pitch_bits))
 }
 
 // The value of K number `number`, K1 being number 0.
-pub fn k(file: &[u8], number: usize, index: u8, pitch_bits: usize) -> i32
-    requires { pitch_bits ≤ 8 }
+pub fn k(file: &[u8], number: usize, index: u8, pitch_bits: PitchWidth) -> i32
     ensures { result ≡ k_at pitch_bits file.now number index }
 {
-    signed_word(entry_at(file, Table::K, k_begin(number) + index as u16, pitch_bits))
+    signed_word(entry_at(file, Table::K, k_begin(number) + u16::from(index), pitch_bits))
 }
 
 // The pulse at a place, 0 past the last.
-pub fn pulse(file: &[u8], place: u32, pitch_bits: usize) -> i32
-    requires { pitch_bits ≤ 8 }
+#[tactic(auto, unfolding(crate::specs::Layout::pulse_at))]
+pub fn pulse(file: &[u8], place: u32, pitch_bits: PitchWidth) -> i32
     ensures { result ≡ pulse_at pitch_bits file.now place }
 {
     let count_place = count_at(pitch_bits);
     let count = byte_at(file, count_place);
-    if place < count as u32 {
+    if place < u32::from(count) {
         signed_byte(byte_at(file, count_place + 1 + place as usize))
     } else {
         0
