@@ -2,11 +2,10 @@
 -- Assumes nothing.
 use mathlib.Core.Path.{◌≡◌}
 use mathlib.Core.Logic.{⊎_elim}
-use mathlib.Core.Bool.{Bool, true, ◌&&◌}
+use mathlib.Core.Bool.{Bool, true}
 use mathlib.Core.List.{List}
-use Prim.Native.Nat.{ℕ, zero, suc, ◌+◌, ◌≤◌, ◌<◌}
+use Prim.Native.Nat.{ℕ, zero, suc, ◌≤◌, ◌<◌}
 use native.Mathlib.Nat.{eq-or-lt_of_le}
-use native.Mathlib.Numerals.{add-one}
 use native.Mathlib.Omega.{arith}
 use borrow.Author.Tests.{eqb-true, leb-true}
 use lib.Dec.{eqb, leb}
@@ -16,11 +15,6 @@ use Rattle.voice.specs.Check.{unsigned_valid, entry_valid, entries_valid}
 use Rattle.voice.specs.declared.layout.Table.{Table}
 
 module _ (P : ℕ) (file : List ℕ) (t : Table) where
-  -- one entry more
-  pub entries_suc : (n : ℕ) → entries_valid P file t (n + 1) ≡ (entries_valid P file t n && entry_valid t n (entry_at P file t n))
-  unfolding entries_valid
-  entries_suc n = rw (add-one n)
-
   -- each of a table's first n entries is in range where all are
   pub each_valid : (n : ℕ) → entries_valid P file t n ≡ true → (i : ℕ) → i < n → entry_valid t i (entry_at P file t i) ≡ true
   unfolding entries_valid

@@ -3,5 +3,4 @@ pub mod Numbers
 pub mod Places
 pub mod Pulses
 pub mod Signed
-pub mod Tables
 pub mod Valid

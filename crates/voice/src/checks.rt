@@ -1,12 +1,13 @@
 // The check of a voice file, with the width of the pitch field and the version as parameters.
-ghost use Rattle.std.specs.Prelude.{◌≡◌, ◌≤◌, length};
+ghost use Rattle.std.specs.Prelude.{◌≡◌, ◌<◌, ◌≤◌, length};
 ghost use Rattle.base.specs.Answers.{number_of_answer};
 ghost use Rattle.rom.specs.Frames.{pitch_width};
-ghost use Rattle.voice.specs.Layout.{count_at};
+ghost use Rattle.voice.specs.Layout.{entries, entry_at, count_at};
 ghost use Rattle.voice.specs.Check.{version, size_fault, length_fault, version_fault, unsigned_valid, k_valid, entry_valid, table_valid, value_fault, pulse_fault, voice_fault};
 
 use crate::layout::{
-    LENGTH_BYTES, Table, count_at, entries, entry_within, length_field, length_with, signed_word,
+    LENGTH_BYTES, Table, be16_within, count_at, entries, length_field, length_with, signed_word,
+    table_start,
 };
 use base::bytes::byte_at;
 use base::refusal::Refusal;
@@ -30,7 +31,7 @@ fn size_fault(file: &[u8], pitch_bits: PitchWidth) -> bool
     ensures { result ≡ size_fault pitch_bits file.now }
 {
     let before = count_at(pitch_bits) + 1;
-    (file.len() < before + 1) | (before + usize::from(PULSE_LIMIT) < file.len())
+    !(before + 1..=before + usize::from(PULSE_LIMIT)).contains(&file.len())
 }
 
 // Whether the length field is not the size minus 2.
@@ -54,7 +55,7 @@ fn unsigned_valid(least: u16, index: u16, word: u16) -> bool
     if index == 0 {
         word == 0
     } else {
-        (least <= word) & (word <= VALUE_MAX)
+        (least..=VALUE_MAX).contains(&word)
     }
 }
 
@@ -62,8 +63,7 @@ fn unsigned_valid(least: u16, index: u16, word: u16) -> bool
 fn k_valid(word: u16) -> bool
     ensures { result ≡ k_valid word }
 {
-    let k = signed_word(word);
-    !(k < K_MIN) & !(K_MAX < k)
+    (K_MIN..=K_MAX).contains(&signed_word(word))
 }
 
 // Whether an entry of a table is in range.
@@ -77,27 +77,45 @@ fn entry_valid(table: Table, index: u16, word: u16) -> bool
     }
 }
 
-// Whether every entry of a table is in range, of a file that has its tables whole.
-fn table_valid(file: &[u8], table: Table, pitch_bits: PitchWidth) -> bool
-    requires { count_at pitch_bits ≤ length file.now }
-    ensures { result ≡ table_valid pitch_bits file.now table }
-{
-    let n = entries(table, pitch_bits);
-    let mut valid = true;
-    for i in 0..n {
-        valid = valid & entry_valid(table, i, entry_within(file, table, i, pitch_bits));
-    }
-    valid
+// A file that has its tables whole, and the width of its device's pitch field.
+#[derive(Clone, Copy)]
+struct Tables<'a> {
+    file: &'a [u8],
+    pitch_bits: PitchWidth,
+    ghost whole: { count_at pitch_bits ≤ length file.now },
 }
 
-// Whether a table value is out of range, of such a file.
-fn value_fault(file: &[u8], pitch_bits: PitchWidth) -> bool
-    requires { count_at pitch_bits ≤ length file.now }
-    ensures { result ≡ value_fault pitch_bits file.now }
-{
-    !(table_valid(file, Table::Energy, pitch_bits)
-        & table_valid(file, Table::Pitch, pitch_bits)
-        & table_valid(file, Table::K, pitch_bits))
+impl Tables<'_> {
+    // Entry `index` of a table: neither byte is tested against the file's end.
+    fn entry(&self, table: Table, index: u16) -> u16
+        requires { index < entries self.now.pitch_bits table }
+        ensures { result ≡ entry_at self.now.pitch_bits self.now.file.now table index }
+    {
+        be16_within(
+            self.file,
+            table_start(table, self.pitch_bits) as usize + 2 * usize::from(index),
+        )
+    }
+
+    // Whether every entry of a table is in range.
+    fn is_valid(&self, table: Table) -> bool
+        ensures { result ≡ table_valid self.now.pitch_bits self.now.file.now table }
+    {
+        // `all`, which stops at the first that is not, takes eight times the instructions.
+        let mut valid = true;
+        #[tactic(auto, unfolding(crate::specs::Check::entries_valid))]
+        for i in 0..entries(table, self.pitch_bits) {
+            valid &= entry_valid(table, i, self.entry(table, i));
+        }
+        valid
+    }
+
+    // Whether a table value is out of range.
+    fn value_fault(&self) -> bool
+        ensures { result ≡ value_fault self.now.pitch_bits self.now.file.now }
+    {
+        !(self.is_valid(Table::Energy) && self.is_valid(Table::Pitch) && self.is_valid(Table::K))
+    }
 }
 
 // Whether the pulse count is 0, over 64, or not that of the length field.
@@ -105,8 +123,7 @@ fn pulse_fault(file: &[u8], pitch_bits: PitchWidth) -> bool
     ensures { result ≡ pulse_fault pitch_bits file.now }
 {
     let count = byte_at(file, count_at(pitch_bits));
-    let length = length_field(file);
-    (count == 0) | (PULSE_LIMIT < count) | (length != length_with(count, pitch_bits))
+    !(1..=PULSE_LIMIT).contains(&count) || length_field(file) != length_with(count, pitch_bits)
 }
 
 // The first fault of a file of a device with that pitch width and that version.
@@ -123,7 +140,7 @@ pub fn voice_fault(file: &[u8], pitch_bits: PitchWidth, version: u8) -> Result<(
     if version_fault(file, version) {
         return Err(Refusal::VoiceVersion);
     }
-    if value_fault(file, pitch_bits) {
+    if (Tables { file, pitch_bits }).value_fault() {
         return Err(Refusal::VoiceValue);
     }
     if pulse_fault(file, pitch_bits) {

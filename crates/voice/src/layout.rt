@@ -40,7 +40,7 @@ fn be16(file: &[u8], at: u32) -> u16
 }
 
 // The big-endian word from byte `at` on, of a file that has both bytes.
-fn be16_within(file: &[u8], at: usize) -> u16
+pub(crate) fn be16_within(file: &[u8], at: usize) -> u16
     requires { at + 1 < length file.now }
     ensures { result ≡ be16 file.now at }
 {
@@ -95,7 +95,7 @@ pub(crate) fn entries(table: Table, pitch_bits: PitchWidth) -> u16
 }
 
 // Where a table starts.
-fn table_start(table: Table, pitch_bits: PitchWidth) -> u32
+pub(crate) fn table_start(table: Table, pitch_bits: PitchWidth) -> u32
     ensures { (result ≡ table_start pitch_bits table) × (result ≤ count_at 8) }
 {
     match table {
@@ -110,17 +110,6 @@ pub(crate) fn entry_at(file: &[u8], table: Table, index: u16, pitch_bits: PitchW
     ensures { result ≡ entry_at pitch_bits file.now table index }
 {
     be16(file, table_start(table, pitch_bits) + 2 * u32::from(index))
-}
-
-// Entry `index` of a table, of a file that has its tables whole: neither byte is tested against the file's end.
-pub(crate) fn entry_within(file: &[u8], table: Table, index: u16, pitch_bits: PitchWidth) -> u16
-    requires { (index < entries pitch_bits table) × (count_at pitch_bits ≤ length file.now) }
-    ensures { result ≡ entry_at pitch_bits file.now table index }
-{
-    be16_within(
-        file,
-        table_start(table, pitch_bits) as usize + 2 * usize::from(index),
-    )
 }
 
 // Where the pulse count stands. The pulses follow it.

@@ -19,10 +19,12 @@ pub fn pitch(file: &[u8], index: u8, pitch_bits: PitchWidth) -> i32
 }
 
 // The value of K number `number`, K1 being number 0.
+#[tactic(auto, using(crate::proofs::Places::total_take_le))]
 pub fn k(file: &[u8], number: usize, index: u8, pitch_bits: PitchWidth) -> i32
     ensures { result ≡ k_at pitch_bits file.now number index }
 {
-    signed_word(entry_at(file, Table::K, k_begin(number) + u16::from(index), pitch_bits))
+    let place = k_begin(number) + u16::from(index);
+    signed_word(entry_at(file, Table::K, place, pitch_bits))
 }
 
 // The pulse at a place, 0 past the last.
