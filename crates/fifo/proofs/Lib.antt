@@ -1,4 +1,3 @@
 pub mod Ranges
 pub mod Orders
 pub mod Held
-pub mod Shifting

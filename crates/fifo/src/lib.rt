@@ -5,15 +5,16 @@ ghost use Rattle.std.specs.Prelude.{◌≡◌, ◌++◌, map, ◌*◌, ◌≤◌
 ghost use Rattle.fifo.specs.Buffer.{fifo_size, empty_fifo, emptied, appended, used_up, buffer_low, buffer_empty, clear_from, fifo_inside, reversed, read_bytes};
 
 // Which bit of a byte leaves the FIFO first.
-#[derive(Clone, Copy)]
+#[derive(Clone, Copy, Debug, PartialEq, Eq)]
 pub enum BitOrder {
     LeastFirst,
     MostFirst,
 }
 
 // The bytes held as they were written, the oldest first, how many they are, how many bits of the oldest are used, and the order in which
-// bits leave.
-#[derive(Clone, Copy)]
+// bits leave. The bytes are 16 whatever the level, for there is no heap, and no invariant ties the two: a host may hold a chip with any, and
+// it is refused with 4.
+#[derive(Clone, Copy, Debug, PartialEq, Eq)]
 pub struct Fifo {
     pub bytes: [u8; 16],
     pub level: u8,
@@ -26,13 +27,8 @@ fn shift(bytes: [u8; 16], n: usize) -> [u8; 16]
     requires { n ≤ fifo_size }
     ensures { result ≡ drop n bytes ++ replicate n 0 }
 {
-    let mut out = [0u8; 16];
-    let mut i = n;
-    while i < Fifo::SIZE as usize {
-        let j = i - n;
-        out[j] = bytes[i];
-        i += 1;
-    }
+    let mut out = [0; 16];
+    out[..bytes.len() - n].copy_from_slice(&bytes[n..]);
     out
 }
 
@@ -40,33 +36,17 @@ fn shift(bytes: [u8; 16], n: usize) -> [u8; 16]
 fn clear_from(bytes: [u8; 16], from: usize) -> bool
     ensures { result ≡ clear_from from bytes }
 {
-    let mut i = from;
-    while i < Fifo::SIZE as usize {
-        if bytes[i] != 0 {
-            return false;
-        }
-        i += 1;
-    }
-    true
+    bytes.iter().skip(from).all(|&byte| byte == 0)
 }
 
-// The byte with its bits in reverse.
-fn reverse(byte: u8) -> u8
-    ensures { result ≡ reversed byte }
-{
-    let low = 128 * (byte % 2) + 64 * (byte / 2 % 2) + 32 * (byte / 4 % 2) + 16 * (byte / 8 % 2);
-    let high = 8 * (byte / 16 % 2) + 4 * (byte / 32 % 2) + 2 * (byte / 64 % 2) + byte / 128;
-    low + high
-}
-
-fn reverse_all(bytes: [u8; 16]) -> [u8; 16]
+// Each byte with its bits in reverse. This loop is vector code; `bytes.map(u8::reverse_bits)` takes eighteen times as many instructions.
+fn reverse_all(mut bytes: [u8; 16]) -> [u8; 16]
     ensures { result ≡ map reversed bytes }
 {
-    let mut out = bytes;
-    for i in 0..16 {
-        out[i] = reverse(bytes[i]);
+    for byte in &mut bytes {
+        *byte = byte.reverse_bits();
     }
-    out
+    bytes
 }
 
 impl Fifo {
@@ -90,20 +70,17 @@ impl Fifo {
     pub fn discard(self) -> Fifo
         ensures { result ≡ emptied self }
     {
-        let order = self.order;
-        Fifo::empty(order)
+        Fifo::empty(self.order)
     }
 
     // The FIFO with a byte more. The caller has tested that there is room.
-    pub fn append(self, byte: u8) -> Fifo
+    pub fn append(mut self, byte: u8) -> Fifo
         requires { self.level < fifo_size }
         ensures { result ≡ appended self byte }
     {
-        let mut fifo = self;
-        let level = self.level as usize;
-        fifo.bytes[level] = byte;
-        fifo.level = self.level + 1;
-        fifo
+        self.bytes[usize::from(self.level)] = byte;
+        self.level += 1;
+        self
     }
 
     pub fn is_low(self) -> bool
@@ -124,24 +101,21 @@ impl Fifo {
         ensures { result ≡ used_up self bits }
     {
         let n = bits / 8;
-        let old = self.bytes;
-        let bytes = shift(old, n);
-        let mut fifo = self;
-        fifo.bytes = bytes;
-        fifo.level = self.level - n as u8;
-        fifo.used_bits = (bits % 8) as u8;
-        fifo
+        Fifo {
+            bytes: shift(self.bytes, n),
+            level: self.level - n as u8,
+            used_bits: (bits % 8) as u8,
+            ..self
+        }
     }
 
     // The bytes for a reader that takes the most significant bit first.
     pub fn read_bytes(self) -> [u8; 16]
         ensures { result ≡ read_bytes self.order self.bytes }
     {
-        let bytes = self.bytes;
-        let order = self.order;
-        match order {
-            BitOrder::LeastFirst => reverse_all(bytes),
-            BitOrder::MostFirst => bytes,
+        match self.order {
+            BitOrder::LeastFirst => reverse_all(self.bytes),
+            BitOrder::MostFirst => self.bytes,
         }
     }
 
@@ -149,8 +123,9 @@ impl Fifo {
     pub fn is_inside(self, least: u8, most: u8, most_used: u8) -> bool
         ensures { result ≡ fifo_inside least most most_used self }
     {
-        let bytes = self.bytes;
-        let clear = clear_from(bytes, self.level as usize);
-        (least <= self.level) & (self.level <= most) & (self.used_bits <= most_used) & clear
+        (least <= self.level)
+            & (self.level <= most)
+            & (self.used_bits <= most_used)
+            & clear_from(self.bytes, usize::from(self.level))
     }
 }

@@ -1,18 +1,30 @@
 use borrow.Author.Rules.{rules}
-use mathlib.Core.Path.{sym, ◌∙◌}
+use mathlib.Core.Path.{◌≡◌, ◌∙◌}
+use Prim.Native.Nat.{ℕ, ◌+◌, ◌*◌, ◌<◌}
 use native.Mathlib.Omega.{arith}
-use lib.ListN.{length-map, get_or-map}
-use Rattle.base.proofs.Filling.{fill_more, fill_all}
+use lib.ListN.{length, get_or}
+use mir.Syntax.{w8}
+use Rattle.std.specs.Int.{reverse_bits, reverse_bits_onto}
+use Rattle.std.proofs.lemmas.List.{get_or_default}
+use Rattle.std.proofs.lemmas.List.Edits.{map_over_more}
+use Rattle.rom.specs.Bits.{digits}
 use Rattle.fifo.specs.Buffer.{reversed}
 use Rattle.fifo.proofs.reverse_all.Goals as goal
 
-pub returns : goal.returns
-returns c =
-    fill_all c.loop-i.i c.loop-i.invariant.2 (omega (arith, length-map c.args.bytes reversed, c.loop-i.invariant.1, c.loop-i-test.false))
+-- the number of eight bits, as the library and as `reversed` has it
+number : (a b c d e f g h : ℕ) → (((((((0 * 2 + a) * 2 + b) * 2 + c) * 2 + d) * 2 + e) * 2 + f) * 2 + g) * 2 + h
+    ≡ 2 * (2 * (2 * (2 * (2 * (2 * (2 * (2 * 0 + a) + b) + c) + d) + e) + f) + g) + h
+number a b c d e f g h = omega arith
 
-pub loop-i-preserved : goal.loop-i-preserved
-loop-i-preserved c = (
-  search rules,
-  c.loop-i.invariant.1,
-  fill_more c.loop-i.i (reversed 0) _ c.loop-i.invariant.2 (omega (arith, length-map c.args.bytes reversed, c.loop-i-test.true, c.loop-i.invariant.1)) (c.reverse.ensures ∙ sym (get_or-map reversed c.args.bytes c.loop-i.i 0)),
-)
+is_reversed : (b : ℕ) → reverse_bits w8 b ≡ reversed b
+unfolding reverse_bits_onto digits reversed
+is_reversed b = number _ _ _ _ _ _ _ _
+
+pub loop-byte-preserved : goal.loop-byte-preserved
+loop-byte-preserved c =
+    let bytes = c.loop-byte.byte-items in
+    let i = c.loop-byte.byte-index in
+    let within : i < length bytes = search rules in
+    let within_all : i < length c.args.bytes = search rules in
+    let e : c.reverse_bits.result ≡ reversed (get_or bytes i 0) = c.reverse_bits.ensures ∙ is_reversed (get_or bytes i 0) in
+    rw e (map_over_more reversed c.args.bytes bytes i (get_or bytes i 0) within_all c.loop-byte.invariant (get_or_default bytes i 0 _ within))

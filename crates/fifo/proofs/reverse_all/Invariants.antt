@@ -1,14 +1,9 @@
--- Each turn overwrites one place.
+-- The bytes passed are in reverse.
 use mathlib.Core.Path.{◌≡◌}
-use mathlib.Core.List.{map}
-use Prim.Native.Nat.{◌-◌, ◌≤◌}
-use lib.ListN.{length}
-use Rattle.base.proofs.Filling.{Filled}
+use mathlib.Core.List.{◌++◌, map}
+use lib.ListN.{take, drop}
 use Rattle.fifo.specs.Buffer.{reversed}
 use Rattle.fifo.proofs.reverse_all.Given as goal
 
-abbrev pub invariant-loop-i : goal.invariant-loop-i
-invariant-loop-i l = (l.i ≤ 16) × (length l.bytes ≡ 16) × Filled (map reversed l.bytes) l.out l.i
-
-abbrev pub decreases-loop-i : goal.decreases-loop-i
-decreases-loop-i l = 16 - l.i
+abbrev pub invariant-loop-byte : goal.invariant-loop-byte
+invariant-loop-byte l = l.byte-items ≡ map reversed (take l.byte-index l.initial.byte-items) ++ drop l.byte-index l.initial.byte-items
