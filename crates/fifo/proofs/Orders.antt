@@ -1,11 +1,12 @@
 -- The bytes as the reader takes them have the bits that leave the FIFO, in their order.
 -- Assumes nothing.
 use mathlib.Core.Path.{◌≡◌, refl, sym, ap, ap₂, ◌∙◌}
-use mathlib.Core.List.{List, [], ◌∷◌, ◌++◌, map, reverse, append_assoc, append-nil}
-use Prim.Native.Nat.{ℕ, zero, suc, ◌+◌, ◌*◌, ◌/◌, ◌%◌, ◌<◌}
+use mathlib.Core.List.{List, [], ◌∷◌, ◌++◌, reverse, append_assoc, append-nil}
+use Prim.Native.Nat.{ℕ, suc, ◌+◌, ◌*◌, ◌/◌, ◌%◌, ◌<◌}
 use native.Mathlib.Nat.{add-zero}
 use native.Mathlib.Omega.{arith}
 use lib.ListN.{length, take, length-map}
+use Rattle.std.proofs.lemmas.List.{take-map}
 use Rattle.rom.specs.Bits.{digits}
 use Rattle.fifo.specs.declared.BitOrder.{BitOrder}
 use Rattle.fifo.specs.declared.BitOrder.TheVariants.{LeastFirst, MostFirst}
@@ -46,11 +47,6 @@ pub length_read : (o : BitOrder) (bs : List ℕ) → length (read_bytes o bs) �
 length_read MostFirst bs = refl
 length_read LeastFirst bs = length-map bs reversed
 
-take_map : (f : ℕ → ℕ) (n : ℕ) (bs : List ℕ) → take n (map f bs) ≡ map f (take n bs)
-take_map f zero bs = refl
-take_map f (suc n) [] = refl
-take_map f (suc n) (b ∷ bs) = ap (λ (l : List ℕ). f b ∷ l) (take_map f n bs)
-
 pub take_read : (o : BitOrder) (n : ℕ) (bs : List ℕ) → take n (read_bytes o bs) ≡ read_bytes o (take n bs)
 take_read MostFirst n bs = refl
-take_read LeastFirst n bs = take_map reversed n bs
+take_read LeastFirst n bs = take-map reversed n bs
