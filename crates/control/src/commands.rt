@@ -7,7 +7,7 @@ ghost use Rattle.control.specs.Commands.{command_of, is_reset, waits, waits_now,
 use crate::state::{Control, Mode};
 use fifo::Fifo;
 
-#[derive(Clone, Copy)]
+#[derive(Clone, Copy, Debug, PartialEq, Eq)]
 pub enum Command {
     // Nothing on the TMS5220.
     LoadFrameRate,
@@ -20,35 +20,34 @@ pub enum Command {
 }
 
 // The command of a byte, by its middle code.
+impl From<u8> for Command {
+    ghost from_gives = { λ byte command. command ≡ command_of byte };
+
+    fn from(byte: u8) -> Command {
+        match byte / 16 % 8 {
+            0 | 2 => Command::LoadFrameRate,
+            1 => Command::ReadByte,
+            3 => Command::ReadAndBranch,
+            4 => Command::LoadAddress,
+            5 => Command::Speak,
+            6 => Command::SpeakExternal,
+            _ => Command::Reset,
+        }
+    }
+}
+
+// The same by the name that the pages have for it.
 pub fn command_of(byte: u8) -> Command
     ensures { result ≡ command_of byte }
 {
-    let code = byte / 16 % 8;
-    match code {
-        0 => Command::LoadFrameRate,
-        1 => Command::ReadByte,
-        2 => Command::LoadFrameRate,
-        3 => Command::ReadAndBranch,
-        4 => Command::LoadAddress,
-        5 => Command::Speak,
-        6 => Command::SpeakExternal,
-        _ => Command::Reset,
-    }
+    Command::from(byte)
 }
 
 impl Command {
     pub fn is_reset(self) -> bool
         ensures { result ≡ is_reset self }
     {
-        match self {
-            Command::LoadFrameRate => false,
-            Command::ReadByte => false,
-            Command::ReadAndBranch => false,
-            Command::LoadAddress => false,
-            Command::Speak => false,
-            Command::SpeakExternal => false,
-            Command::Reset => true,
-        }
+        matches!(self, Command::Reset)
     }
 
     fn beyond(self, image: &[u8], position: usize) -> bool
@@ -57,13 +56,13 @@ impl Command {
     {
         let n = image.len();
         match self {
-            Command::LoadFrameRate => false,
-            Command::ReadByte => !(position + 8 <= 8 * n),
-            Command::ReadAndBranch => !(position / 8 + 2 <= n),
-            Command::LoadAddress => false,
-            Command::Speak => !(position + 1 <= 8 * n),
-            Command::SpeakExternal => false,
-            Command::Reset => false,
+            Command::ReadByte => 8 * n < position + 8,
+            Command::ReadAndBranch => n < position / 8 + 2,
+            Command::Speak => 8 * n < position + 1,
+            Command::LoadFrameRate
+            | Command::LoadAddress
+            | Command::SpeakExternal
+            | Command::Reset => false,
         }
     }
 }
@@ -76,8 +75,7 @@ impl Mode {
         match self {
             Mode::Idle => false,
             Mode::Rom => !command.is_reset(),
-            Mode::Waiting => level == Fifo::SIZE,
-            Mode::External => level == Fifo::SIZE,
+            Mode::Waiting | Mode::External => level == Fifo::SIZE,
         }
     }
 
@@ -88,9 +86,7 @@ impl Mode {
     {
         match self {
             Mode::Idle => command.beyond(image, position),
-            Mode::Rom => false,
-            Mode::Waiting => false,
-            Mode::External => false,
+            Mode::Rom | Mode::Waiting | Mode::External => false,
         }
     }
 }
@@ -100,8 +96,6 @@ impl Control {
     pub fn waits(self, command: Command) -> bool
         ensures { result ≡ waits_now self command }
     {
-        let mode = self.mode;
-        let port = self.port;
-        port.is_busy() | mode.waits(self.fifo.level, command)
+        self.port.is_busy() || self.mode.waits(self.fifo.level, command)
     }
 }

@@ -8,7 +8,7 @@ use base::units::Samples;
 use clock::Clock;
 use fifo::{BitOrder, Fifo};
 
-#[derive(Clone, Copy)]
+#[derive(Clone, Copy, Debug, PartialEq, Eq)]
 pub enum Mode {
     Idle,
     // Speaking from ROM.
@@ -21,7 +21,8 @@ pub enum Mode {
 
 // The bus side: the data byte that the next read gets, if one is pending, the interrupt, and the samples for which a branch still keeps
 // the chip busy.
-#[derive(Clone, Copy)]
+// The data byte is no `Option`: a host may hold a chip with a byte that is not pending, and it is refused with 4.
+#[derive(Clone, Copy, Debug, PartialEq, Eq)]
 pub struct Port {
     pub pending: bool,
     pub data: u8,
@@ -47,16 +48,13 @@ impl Port {
     pub fn is_busy(self) -> bool
         ensures { result ≡ is_busy self }
     {
-        let busy = self.busy;
-        0 < busy.count()
+        0 < self.busy.count()
     }
 
     pub fn with_busy(self, busy: Samples) -> Port
         ensures { result ≡ with_busy busy self }
     {
-        let mut port = self;
-        port.busy = busy;
-        port
+        Port { busy, ..self }
     }
 }
 
@@ -67,20 +65,17 @@ impl Control {
     pub fn power_up(device: Device, order: BitOrder) -> Control
         ensures { result ≡ power_up_control device order }
     {
-        let address = AddressRegister::power_up();
-        let fifo = Fifo::empty(order);
-        let clock = Clock::power_up();
         Control {
             mode: Mode::Idle,
-            address,
-            fifo,
+            address: AddressRegister::power_up(),
+            fifo: Fifo::empty(order),
             port: Port {
                 pending: false,
                 data: 0,
                 interrupt: false,
                 busy: Samples::of(0),
             },
-            clock,
+            clock: Clock::power_up(),
             device,
         }
     }
@@ -88,77 +83,43 @@ impl Control {
     pub fn with_mode(self, mode: Mode) -> Control
         ensures { result ≡ with_mode mode self }
     {
-        let address = self.address;
-        let fifo = self.fifo;
-        let port = self.port;
-        let clock = self.clock;
-        let device = self.device;
-        Control {
-            mode,
-            address,
-            fifo,
-            port,
-            clock,
-            device,
-        }
+        Control { mode, ..self }
     }
 
     pub fn with_address(self, address: AddressRegister) -> Control
         ensures { result ≡ with_address address self }
     {
-        let mut control = self;
-        control.address = address;
-        control
+        Control { address, ..self }
     }
 
     pub fn with_fifo(self, fifo: Fifo) -> Control
         ensures { result ≡ with_fifo fifo self }
     {
-        let mut control = self;
-        control.fifo = fifo;
-        control
+        Control { fifo, ..self }
     }
 
     pub fn with_port(self, port: Port) -> Control
         ensures { result ≡ with_port port self }
     {
-        let mut control = self;
-        control.port = port;
-        control
+        Control { port, ..self }
     }
 
     // The control after some samples, of which a busy chip counts each.
     pub fn less_busy(self, passed: Samples) -> Control
         ensures { result ≡ less_busy passed.0 self }
     {
-        let port = self.port;
-        let busy = port.busy;
-        self.with_port(port.with_busy(busy.less(passed)))
+        self.with_port(self.port.with_busy(self.port.busy.less(passed)))
     }
 
     pub fn with_clock(self, clock: Clock) -> Control
         ensures { result ≡ with_clock clock self }
     {
-        let mut control = self;
-        control.clock = clock;
-        control
+        Control { clock, ..self }
     }
 
     pub fn with_device(self, device: Device) -> Control
         ensures { result ≡ with_device device self }
     {
-        let mode = self.mode;
-        let address = self.address;
-        let fifo = self.fifo;
-        let port = self.port;
-        let clock = self.clock;
-        Control {
-            mode,
-            address,
-            fifo,
-            port,
-            clock,
-            device,
-        }
+        Control { device, ..self }
     }
 }

@@ -16,18 +16,17 @@ impl Control {
     pub fn status(self) -> u8
         ensures { result ≡ status_of self }
     {
-        let mode = self.mode;
-        let fifo = self.fifo;
-        flag(mode.speaks(), 0x80) + flag(fifo.is_low(), 0x40) + flag(fifo.is_empty(), 0x20)
+        flag(self.mode.speaks(), 0x80)
+            + flag(self.fifo.is_low(), 0x40)
+            + flag(self.fifo.is_empty(), 0x20)
     }
 
     // The byte that the bus gets.
     pub fn bus_byte(self) -> u8
         ensures { result ≡ bus_byte self }
     {
-        let port = self.port;
-        if port.pending {
-            port.data
+        if self.port.pending {
+            self.port.data
         } else {
             self.status()
         }
@@ -38,12 +37,10 @@ impl Port {
     pub fn drop_data(self) -> Port
         ensures { result ≡ no_data self }
     {
-        let busy = self.busy;
         Port {
             pending: false,
             data: 0,
-            interrupt: self.interrupt,
-            busy,
+            ..self
         }
     }
 
@@ -51,12 +48,9 @@ impl Port {
     pub fn raise(self, on: bool) -> Port
         ensures { result ≡ raised_port on self }
     {
-        let busy = self.busy;
         Port {
-            pending: self.pending,
-            data: self.data,
             interrupt: self.interrupt | on,
-            busy,
+            ..self
         }
     }
 
@@ -66,12 +60,9 @@ impl Port {
         if self.pending {
             self.drop_data()
         } else {
-            let busy = self.busy;
             Port {
-                pending: self.pending,
-                data: self.data,
                 interrupt: false,
-                busy,
+                ..self
             }
         }
     }

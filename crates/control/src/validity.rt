@@ -9,32 +9,20 @@ impl Mode {
     pub fn speaks(self) -> bool
         ensures { result ≡ speaks self }
     {
-        match self {
-            Mode::Idle => false,
-            Mode::Rom => true,
-            Mode::Waiting => false,
-            Mode::External => true,
-        }
+        matches!(self, Mode::Rom | Mode::External)
     }
 
     pub fn is_idle(self) -> bool
         ensures { result ≡ is_idle self }
     {
-        match self {
-            Mode::Idle => true,
-            Mode::Rom => false,
-            Mode::Waiting => false,
-            Mode::External => false,
-        }
+        matches!(self, Mode::Idle)
     }
 
     fn least_level(self) -> u8
         ensures { result ≡ least_level self }
     {
         match self {
-            Mode::Idle => 0,
-            Mode::Rom => 0,
-            Mode::Waiting => 0,
+            Mode::Idle | Mode::Rom | Mode::Waiting => 0,
             Mode::External => 1,
         }
     }
@@ -43,8 +31,7 @@ impl Mode {
         ensures { result ≡ most_level self }
     {
         match self {
-            Mode::Idle => 0,
-            Mode::Rom => 0,
+            Mode::Idle | Mode::Rom => 0,
             Mode::Waiting => Control::START_LEVEL - 1,
             Mode::External => Fifo::SIZE,
         }
@@ -54,9 +41,7 @@ impl Mode {
         ensures { result ≡ most_used self }
     {
         match self {
-            Mode::Idle => 0,
-            Mode::Rom => 0,
-            Mode::Waiting => 0,
+            Mode::Idle | Mode::Rom | Mode::Waiting => 0,
             Mode::External => 7,
         }
     }
@@ -73,10 +58,9 @@ impl Port {
         ensures { result ≡ port_valid mode self }
     {
         let idle = mode.is_idle();
-        let busy = self.busy;
         (!self.pending | idle)
             & (self.pending | (self.data == 0))
-            & ((busy.count() <= Port::BRANCH_TIME) & (!self.is_busy() | idle))
+            & ((self.busy.count() <= Port::BRANCH_TIME) & (!self.is_busy() | idle))
     }
 }
 
@@ -85,16 +69,10 @@ impl Control {
     pub fn valid(self) -> bool
         ensures { result ≡ control_valid self }
     {
-        let mode = self.mode;
-        let address = self.address;
-        let fifo = self.fifo;
-        let port = self.port;
-        let clock = self.clock;
-        let device = self.device;
-        address.valid()
-            & mode.fifo_valid(fifo)
-            & port.valid(mode)
-            & clock.valid(mode.speaks())
-            & device.valid()
+        self.address.valid()
+            & self.mode.fifo_valid(self.fifo)
+            & self.port.valid(self.mode)
+            & self.clock.valid(self.mode.speaks())
+            & self.device.valid()
     }
 }
