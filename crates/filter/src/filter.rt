@@ -25,6 +25,7 @@ const SUM_LIMIT: i32 = 8388608;
 
 // The value, or the end of the range that it lies beyond. Few values lie beyond an end, and the end is looked up so that the compiled code branches on that: the
 // stage below then goes on with the value while it is compared, where a choice by computing would make it wait.
+#[tactic(auto, unfolding(base::specs::Range::clamped))]
 fn saturate(z: i32) -> i32
     requires { Between sum_limit (sum_limit - 1) z }
     ensures { result ≡ saturated z }
@@ -62,6 +63,7 @@ fn memory_of(k: i32, m: i32, f: i32) -> i32
 
 // The stage at index i. What it renews is the memory above its own, which the stage above has used already; the last
 // stage has none above it.
+#[tactic(auto, using(crate::proofs::Ranges::saturated_range))]
 fn stage(k: &[i32; STAGES], memory: &mut [i32; STAGES], above: i32, i: usize) -> i32
     requires { (TenBetween 512 511 k.now) × (TenBetween 8192 8191 memory.old) × (Between 8192 8191 above) × (i < stages) }
     ensures value { result ≡ stage_forward k.now memory.old above i }
