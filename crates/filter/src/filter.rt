@@ -37,45 +37,58 @@ fn saturate(z: i32) -> i32
     ENDS[end]
 }
 
-// The product of a coefficient and a value, divided by 512 and rounded down.
-fn scale(k: i32, x: i32) -> i32
-    requires { (Between 512 511 k) × (Between 8192 8191 x) }
-    ensures { (result ≡ scaled k x) × (Between (512 * 8192) (512 * 8192) result) }
-{
-    k * x >> K_SHIFT
+// A stage's coefficient and old memory, each in its range.
+#[derive(Clone, Copy)]
+struct Stage {
+    k: i32,
+    memory: i32,
+    ghost k_in_range: { Between 512 511 k },
+    ghost memory_in_range: { Between 8192 8191 memory },
 }
 
-// A stage's forward value, from that of the stage above.
-fn forward_of(k: i32, m: i32, above: i32) -> i32
-    requires { (Between 512 511 k) × (Between 8192 8191 m) × (Between 8192 8191 above) }
-    ensures { result ≡ forward_of k m above }
-{
-    saturate(above - scale(k, m))
-}
+impl Stage {
+    // The product of the coefficient and a value, divided by 512 and rounded down.
+    fn scaled(self, x: i32) -> i32
+        requires { Between 8192 8191 x }
+        ensures { (result ≡ scaled self.k x) × (Between (512 * 8192) (512 * 8192) result) }
+    {
+        self.k * x >> K_SHIFT
+    }
 
-// The new memory above a stage, from the stage's old memory and forward value.
-fn memory_of(k: i32, m: i32, f: i32) -> i32
-    requires { (Between 512 511 k) × (Between 8192 8191 m) × (Between 8192 8191 f) }
-    ensures { result ≡ memory_of k m f }
-{
-    saturate(m + scale(k, f))
+    // The forward value, from that of the stage above.
+    fn forward(self, above: i32) -> i32
+        requires { Between 8192 8191 above }
+        ensures { result ≡ forward_of self.k self.memory above }
+    {
+        saturate(above - self.scaled(self.memory))
+    }
+
+    // The new memory above the stage, from its forward value.
+    fn memory_above(self, forward: i32) -> i32
+        requires { Between 8192 8191 forward }
+        ensures { result ≡ memory_of self.k self.memory forward }
+    {
+        saturate(self.memory + self.scaled(forward))
+    }
 }
 
 // The stage at index i. What it renews is the memory above its own, which the stage above has used already; the last
 // stage has none above it.
 #[tactic(auto, using(crate::proofs::Ranges::saturated_range))]
-fn stage(k: &[i32; STAGES], memory: &mut [i32; STAGES], above: i32, i: usize) -> i32
+fn stage_at(k: &[i32; STAGES], memory: &mut [i32; STAGES], above: i32, i: usize) -> i32
     requires { (TenBetween 512 511 k.now) × (TenBetween 8192 8191 memory.old) × (Between 8192 8191 above) × (i < stages) }
     ensures value { result ≡ stage_forward k.now memory.old above i }
     ensures memory_after { memory.new ≡ stage_memory k.now memory.old above i }
 {
-    let k_i = k[i];
-    let m = memory[i];
-    let f = forward_of(k_i, m, above);
+    let stage = Stage {
+        k: k[i],
+        memory: memory[i],
+    };
+    let forward = stage.forward(above);
     if i + 1 < STAGES {
-        memory[i + 1] = memory_of(k_i, m, f);
+        memory[i + 1] = stage.memory_above(forward);
     }
-    f
+    forward
 }
 
 // The lowest `left` stages, from the forward value of the stage above them. Below stage 1, forward value 1 is new memory 1.
@@ -89,8 +102,8 @@ fn stages(k: &[i32; STAGES], memory: &mut [i32; STAGES], above: i32, left: usize
         return above;
     }
     let i = left - 1;
-    let f = stage(k, memory, above, i);
-    stages(k, memory, f, i)
+    let forward = stage_at(k, memory, above, i);
+    stages(k, memory, forward, i)
 }
 
 // Forward value 1 of an input, with the memory renewed. The caller has made sure that K, memory and input are in their ranges.
