@@ -1,10 +1,14 @@
 -- What a written byte, a look, an acknowledge and a read return, by their fault, and what a byte without a fault finds.
 -- Assumes nothing.
-use mathlib.Core.Path.{◌≡◌, refl}
+use mathlib.Core.Path.{◌≡◌, refl, ap, ◌∙◌}
 use mathlib.Core.Bool.{Bool, true, false, not}
 use mathlib.Core.List.{List, [], ◌∷◌}
 use Prim.Native.Nat.{ℕ}
+use native.Mathlib.Omega.{arith}
 use borrow.Author.Tests.{not-false}
+use Rattle.base.specs.Answers.{number_of}
+use Rattle.base.specs.declared.refusal.Refusal.{Refusal}
+use Rattle.base.proofs.Refused.{refused_not_taken}
 use Rattle.base.specs.Refusals.{WAIT, BEYOND, IMAGE, STATE}
 use Rattle.base.proofs.Booleans.{either_way}
 use Rattle.base.proofs.Faults.{First, first_is, answered, refused_with, none_applies, by_fault}
@@ -79,6 +83,22 @@ module _ (c : Chip) where
       → record { chip = a.chip; refusal = a.refusal; byte = l.byte } ≡ read_of c
   unfolding read_of
   read_is l a = rw (a, l)
+
+  pub read_refused : (r : Refusal) → not_looked c (number_of r) ≡ look_of c → not_looked c (number_of r) ≡ read_of c
+  unfolding read_of look_of acknowledge_of
+  read_refused r e =
+      either_way (valid c)
+      (λ v. let z : number_of r ≡ 0 = ap (λ (l : ByteRead). l.refusal) e ∙ rw v in absurd (refused_not_taken r z))
+      (λ v. e ∙ rw (v, v))
+
+  -- where a look is taken, an acknowledge is
+  pub looked_not_refused : (r : Refusal) {x : ℕ} → record { chip = c; refusal = 0; byte = x } ≡ look_of c
+      → not_acknowledged c (number_of r) ≡ acknowledge_of c → ⊥
+  unfolding look_of acknowledge_of
+  looked_not_refused r e a =
+      either_way (valid c)
+      (λ v. refused_not_taken r (ap (λ (l : Acknowledged). l.refusal) a ∙ rw v))
+      (λ v. let z : 0 ≡ 4 = ap (λ (l : ByteRead). l.refusal) e ∙ rw v in omega arith)
 
 pub look_keeps : LookKeeps
 unfolding look_of

@@ -1,9 +1,11 @@
 -- A byte read (01, "Commands, FIFO, status"), and its two halves (02, §6): the look and the acknowledge.
-use Rattle.std.specs.Prelude.{not, [], ◌∷◌, ℕ}
+use Rattle.std.specs.Prelude.{Result, Ok, Err, not, [], ◌∷◌, ℕ}
+use Rattle.base.specs.Answers.{number_of}
 use Rattle.base.specs.Refusals.{TAKEN, STATE, first_fault, unless_fault}
+use Rattle.base.specs.declared.refusal.Refusal.{Refusal}
 use Rattle.control.specs.State.{with_port}
 use Rattle.control.specs.Status.{bus_byte, acknowledged_port}
-use Rattle.chip.specs.Types.{Control, Chip, Acknowledged, ByteRead}
+use Rattle.chip.specs.Types.{Control, Chip, Acknowledged, ByteRead, BusRead}
 use Rattle.chip.specs.Validity.{valid}
 
 -- the fault of each: 4
@@ -38,3 +40,16 @@ read_of c =
     let l = look_of c in
     let a = acknowledge_of l.chip in
     record { chip = a.chip; refusal = a.refusal; byte = l.byte }
+
+-- what the answers of the three operations say: refused, the given chip is handed back
+abbrev pub look_answer : Chip → Result ℕ Refusal → ByteRead
+look_answer c (Ok byte) = record { chip = c; refusal = TAKEN; byte = byte }
+look_answer c (Err r) = not_looked c (number_of r)
+
+abbrev pub acknowledge_answer : Chip → Result Chip Refusal → Acknowledged
+acknowledge_answer c (Ok next) = record { chip = next; refusal = TAKEN }
+acknowledge_answer c (Err r) = not_acknowledged c (number_of r)
+
+abbrev pub read_answer : Chip → Result BusRead Refusal → ByteRead
+read_answer c (Ok r) = record { chip = r.chip; refusal = TAKEN; byte = r.byte }
+read_answer c (Err r) = not_looked c (number_of r)

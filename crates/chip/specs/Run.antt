@@ -1,6 +1,8 @@
 -- A run (01, "Refusal numbers"): one sample step for each element of the buffer, in order.
-use Rattle.std.specs.Prelude.{List, ℕ, ℤ, length}
+use Rattle.std.specs.Prelude.{Result, Ok, Err, List, ℕ, ℤ, length}
+use Rattle.base.specs.Answers.{number_of}
 use Rattle.base.specs.Refusals.{TAKEN, unless_fault}
+use Rattle.base.specs.declared.refusal.Refusal.{Refusal}
 use Rattle.base.specs.Steps.{state_after, outputs}
 use Rattle.rom.specs.Frames.{pitch_width}
 use Rattle.sound.specs.Sample.{sound_after}
@@ -36,3 +38,8 @@ run_of image voice c n =
 unfoldable pub buffer_of : List ℕ → List ℕ → Chip → List ℤ → List ℤ
 buffer_of image voice c out =
     unless_fault (step_fault image voice c) (λ n. out) (outputs (sample_step image voice) (length out) c)
+
+-- what an answer of the operation says: refused, the given chip is handed back
+abbrev pub run_answer : Chip → Result Chip Refusal → Ran
+run_answer c (Ok next) = record { chip = next; refusal = TAKEN }
+run_answer c (Err r) = not_run c (number_of r)

@@ -1,13 +1,15 @@
 -- A sample step (01, "Sound", "Refusal numbers"): the control moves, and the sound does what it asks.
-use Rattle.std.specs.Prelude.{not, List, [], ◌∷◌, ℕ, eqb, pos}
+use Rattle.std.specs.Prelude.{Result, Ok, Err, not, List, [], ◌∷◌, ℕ, eqb, pos}
+use Rattle.base.specs.Answers.{number_of}
 use Rattle.base.specs.Refusals.{TAKEN, IMAGE, STATE, first_fault, unless_fault}
+use Rattle.base.specs.declared.refusal.Refusal.{Refusal}
 use Rattle.rom.specs.Bits.{image_valid}
 use Rattle.rom.specs.Frames.{pitch_width}
 use Rattle.reports.specs.Reports.{no_details}
 use Rattle.voice.specs.Check.{voice_fault, version}
 use Rattle.speech.specs.Advance.{advanced}
 use Rattle.play.specs.Play.{sounded}
-use Rattle.chip.specs.Types.{Chip, NoReport, Stepped}
+use Rattle.chip.specs.Types.{Chip, NoReport, Stepped, SampleStep}
 use Rattle.chip.specs.Validity.{valid}
 
 -- a step that is taken
@@ -30,3 +32,8 @@ not_stepped c n = record { chip = c; refusal = n; sample = pos 0; report = NoRep
 -- a sample step
 unfoldable pub step_of : List ℕ → List ℕ → Chip → Stepped
 step_of image voice c = unless_fault (step_fault image voice c) (not_stepped c) (step_taken image voice c)
+
+-- what an answer of the operation says: refused, the given chip is handed back, with the sample 0 and no report
+abbrev pub step_answer : Chip → Result SampleStep Refusal → Stepped
+step_answer c (Ok s) = record { chip = s.chip; refusal = TAKEN; sample = s.sample; report = s.report; details = s.details }
+step_answer c (Err r) = not_stepped c (number_of r)

@@ -1,6 +1,8 @@
 -- A byte written (01, "Refusal numbers", "Commands, FIFO, status").
-use Rattle.std.specs.Prelude.{not, cond, List, [], ◌∷◌, ℕ}
+use Rattle.std.specs.Prelude.{Result, Ok, Err, not, cond, List, [], ◌∷◌, ℕ}
+use Rattle.base.specs.Answers.{number_of}
 use Rattle.base.specs.Refusals.{TAKEN, WAIT, BEYOND, IMAGE, STATE, first_fault, unless_fault}
+use Rattle.base.specs.declared.refusal.Refusal.{Refusal}
 use Rattle.rom.specs.Bits.{image_valid}
 use Rattle.sound.specs.State.{rest_sound}
 use Rattle.chip.specs.Types.{Command, Accepted, Chip, Written}
@@ -33,3 +35,8 @@ unfoldable pub write_of : List ℕ → Chip → ℕ → Written
 write_of image c b =
     unless_fault (write_fault image c b) (not_written c)
     (record { chip = after_byte c (accepted image c.control b); refusal = TAKEN })
+
+-- what an answer of the operation says: refused, the given chip is handed back
+abbrev pub write_answer : Chip → Result Chip Refusal → Written
+write_answer c (Ok next) = record { chip = next; refusal = TAKEN }
+write_answer c (Err r) = not_written c (number_of r)

@@ -85,9 +85,10 @@ impl Chip {
     fn power_up_of(device: Device, order: BitOrder) -> Chip
         ensures { result ≡ power_up_of device order }
     {
-        let control = Control::power_up(device, order);
-        let sound = Sound::at_rest();
-        Chip { control, sound }
+        Chip {
+            control: Control::power_up(device, order),
+            sound: Sound::at_rest(),
+        }
     }
 
     // The constants above, which this promises to be those of the definitions.

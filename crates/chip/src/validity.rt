@@ -9,9 +9,8 @@ impl Chip {
     pub fn valid(self) -> bool
         ensures { result ≡ valid self }
     {
-        let control = self.control;
-        let sound = self.sound;
-        let sounding = control.clock.sounding;
-        control.valid() & sound.valid() & (sounding | sound.is_at_rest())
+        self.control.valid()
+            & self.sound.valid()
+            & (self.control.clock.sounding | self.sound.is_at_rest())
     }
 }

@@ -8,6 +8,7 @@ ghost use Rattle.reports.specs.Reports.{Playable};
 ghost use Rattle.play.specs.Play.{silent, sounded};
 
 use reports::Action;
+use rom::frames::PitchWidth;
 use sound::sample::Sampled;
 use sound::state::Sound;
 
@@ -18,9 +19,8 @@ fn silent(sound: Sound) -> Sampled
 }
 
 // The sound after an action, and its sample. The caller has tested the voice file and the sound.
-pub fn apply(action: Action, sound: Sound, voice: &[u8], pitch_bits: usize) -> Sampled
-    requires { (pitch_bits ≤ 8)
-        × ((version : ℕ) × (voice_fault pitch_bits version voice.now ≡ 0))
+pub fn apply(action: Action, sound: Sound, voice: &[u8], pitch_bits: PitchWidth) -> Sampled
+    requires { ((version : ℕ) × (voice_fault pitch_bits version voice.now ≡ 0))
         × Playable pitch_bits action
         × (sound_valid sound ≡ true) }
     ensures { result ≡ sounded pitch_bits voice.now action sound }
@@ -30,13 +30,9 @@ pub fn apply(action: Action, sound: Sound, voice: &[u8], pitch_bits: usize) -> S
         Action::Rest => silent(Sound::at_rest()),
         Action::Begin(frame, interval) => {
             let aimed = sound.set_targets(voice, frame, pitch_bits);
-            let moved = aimed.interpolate(interval);
-            moved.sample(voice, pitch_bits)
+            aimed.interpolate(interval).sample(voice, pitch_bits)
         }
-        Action::Interpolate(interval) => {
-            let moved = sound.interpolate(interval);
-            moved.sample(voice, pitch_bits)
-        }
+        Action::Interpolate(interval) => sound.interpolate(interval).sample(voice, pitch_bits),
         Action::Continue => sound.sample(voice, pitch_bits),
     }
 }

@@ -11,6 +11,7 @@ use crate::pulse::next_pulse;
 use crate::state::Sound;
 use filter::filter::{STAGES, filter};
 use filter::range::clamp;
+use rom::frames::PitchWidth;
 use voice::lookup::pulse;
 
 // The range of a sample: 10 signed bits.
@@ -34,8 +35,7 @@ pub struct Sampled {
 }
 
 // The excitation: the pulse at the pulse place, or noise.
-fn excitation(file: &[u8], voiced: bool, place: u32, noise: u32, pitch_bits: usize) -> i32
-    requires { pitch_bits ≤ 8 }
+fn excitation(file: &[u8], voiced: bool, place: u32, noise: u32, pitch_bits: PitchWidth) -> i32
     ensures { result ≡ excitation_of pitch_bits file.now voiced place noise }
 {
     if voiced {
@@ -66,8 +66,8 @@ impl Sound {
     }
 
     // A sample, with the pulses of a voice file.
-    pub fn sample(self, file: &[u8], pitch_bits: usize) -> Sampled
-        requires { (sound_valid self ≡ true) × (pitch_bits ≤ 8) }
+    pub fn sample(self, file: &[u8], pitch_bits: PitchWidth) -> Sampled
+        requires { sound_valid self ≡ true }
         ensures { result ≡ sampled pitch_bits file.now self }
     {
         let current = self.current;
@@ -83,8 +83,8 @@ impl Sound {
     }
 
     // A sample for each element of a buffer, without an interpolation between them.
-    pub fn play(self, file: &[u8], out: &mut [i16], pitch_bits: usize) -> Sound
-        requires { (sound_valid self ≡ true) × (pitch_bits ≤ 8) }
+    pub fn play(self, file: &[u8], out: &mut [i16], pitch_bits: PitchWidth) -> Sound
+        requires { sound_valid self ≡ true }
         ensures value { result ≡ sound_after pitch_bits file.now (length out.old) self }
         ensures out_after { out.new ≡ values_of pitch_bits file.now (length out.old) self }
     {

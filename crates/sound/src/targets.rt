@@ -4,12 +4,11 @@ ghost use Rattle.sound.specs.Targets.{targets_of, holds, with_targets};
 
 use crate::params::Params;
 use crate::state::Sound;
-use rom::frames::Frame;
+use rom::frames::{Frame, PitchWidth};
 use voice::lookup::{energy, k, pitch};
 
 // The targets of a frame, from a voice file and the targets before it.
-fn targets(file: &[u8], frame: Frame, old: Params, pitch_bits: usize) -> Params
-    requires { pitch_bits ≤ 8 }
+fn targets(file: &[u8], frame: Frame, old: Params, pitch_bits: PitchWidth) -> Params
     ensures { result ≡ targets_of pitch_bits file.now frame old }
 {
     let kept = old.k;
@@ -97,8 +96,7 @@ fn holds(old: Params, new: Params) -> bool
 
 impl Sound {
     // The sound with the targets of a frame, holding its currents or not.
-    pub fn set_targets(self, file: &[u8], frame: Frame, pitch_bits: usize) -> Sound
-        requires { pitch_bits ≤ 8 }
+    pub fn set_targets(self, file: &[u8], frame: Frame, pitch_bits: PitchWidth) -> Sound
         ensures { result ≡ with_targets pitch_bits file.now frame self }
     {
         let old = self.target;

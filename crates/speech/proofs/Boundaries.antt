@@ -1,28 +1,16 @@
 -- What the control does at a frame boundary, by what the reader returns, and the frame that a boundary in external speech takes.
 -- Assumes nothing.
 use mathlib.Core.Path.{◌≡◌, sym, ap, ◌∙◌, subst, refl}
-use mathlib.Core.Bool.{true, false, ◌||◌}
+use mathlib.Core.Bool.{true, false}
 use mathlib.Core.List.{List}
-use Prim.Native.Nat.{ℕ, ◌+◌, ◌*◌, ◌≤◌, ◌<◌, max}
-use lib.Dec.{ltb}
-use lib.ListN.{length}
+use Prim.Native.Nat.{ℕ, ◌≤◌, ◌<◌}
 use Rattle.base.proofs.Booleans.{either_way, cond_true, cond_false}
-use Rattle.base.specs.declared.units.Intervals.{Intervals}
-use Rattle.rom.specs.Bits.{field}
-use Rattle.rom.specs.Frames.{is_stop}
 use Rattle.rom.specs.Items.{ItemAnswer, whole, cut}
-use Rattle.rom.specs.Prefix.{with_prefix}
-use Rattle.std.specs.Prelude.{Ok, Err}
-use Rattle.rom.specs.Reader.{FrameAnswer, frame_from}
-use Rattle.rom.specs.declared.frames.Frame.{Frame}
-use Rattle.base.specs.declared.refusal.Shortfall.{Shortfall}
-use Rattle.clock.specs.Counters.{begun, counted, frame_begins}
-use Rattle.fifo.specs.Buffer.{fifo_size, emptied, used_up, held_bytes}
-use Rattle.reports.specs.Reports.{frame_report, no_details, of_frame, rated, out_of_rom}
-use Rattle.rates.specs.Rates.{prefix_bits, skipped_with}
+use Rattle.clock.specs.Counters.{counted, frame_begins}
+use Rattle.fifo.specs.Buffer.{fifo_size}
+use Rattle.reports.specs.Reports.{no_details, out_of_rom}
+use Rattle.rates.specs.Rates.{prefix_bits}
 use Rattle.rates.specs.Form.{Item, read_item, short_at}
-use Rattle.rates.specs.declared.rate.FrameRate.{FrameRate}
-use Rattle.rates.proofs.Rates.{read_is}
 use Rattle.reports.proofs.RanOut.{nothing_not_out, frame_not_out}
 use Rattle.rom.proofs.Prefixed.{prefixed_cut}
 use Rattle.control.specs.Device.{rate_of}
@@ -30,46 +18,11 @@ use Rattle.control.specs.State.{with_clock, less_busy}
 use Rattle.control.specs.Validity.{fifo_valid, control_valid}
 use Rattle.control.proofs.Ranges.{control_ranges, mode_ranges, valid_fits}
 use Rattle.fifo.proofs.Held.{held_frame, held_cut}
-use Rattle.speech.specs.Types.{Mode, Idle, Rom, Waiting, External, Fifo, Clock, Control, Details, Report, NoReport, RanOut, Action, Silent, Begin, Moved}
-use Rattle.speech.specs.Advance.{within, changed, frame_begun, ran_out, from_rom, fifo_out, from_fifo, form_of, thrown_by, boundary_in, advanced_from}
+use Rattle.speech.specs.Types.{Mode, Idle, Rom, Waiting, External, Control, NoReport, RanOut, Action, Silent, Moved}
+use Rattle.speech.specs.Advance.{within, from_rom, from_fifo, form_of, boundary_in, advanced_from}
 use Rattle.speech.specs.Laws.{FifoFrame, FifoEnds, RomEnds}
 
--- a frame that begins, from what its calls give
-module _ (k : Control) (q : ℕ) (f : Frame) (p : ℕ) (held : Fifo) {d : Control} {n : Intervals} {t : Clock} {r : Report} (e : Details)
-    (x : n ≡ skipped_with (rate_of k.device) q) (y : t ≡ counted (begun n k.clock)) (z : r ≡ frame_report f) where
-  pub stop_begun : {g : Fifo} → is_stop f ≡ true → d ≡ changed k Idle p g t → g ≡ emptied held
-      → record { control = d; action = Begin f n; report = r; details = e } ≡ frame_begun k (q, f) p held e
-  stop_begun s c h = rw (z, s, c, h, y, x)
-
-  pub frame_begun_lem : is_stop f ≡ false → d ≡ changed k k.mode p held t
-      → record { control = d; action = Begin f n; report = r; details = e } ≡ frame_begun k (q, f) p held e
-  frame_begun_lem s c = rw (z, s, c, y, x)
-
--- what the reader of items returns, from what its calls give
-module _ (P : ℕ) (k : Control) (s : List ℕ) (at : ℕ) {r : FrameRate} {Q q : ℕ} {x : FrameAnswer}
-    (d : r ≡ rate_of k.device) (e : Q ≡ prefix_bits r) (b : q ≡ field s at Q) (a : x ≡ frame_from P s at (at + Q)) where
-  answer : with_prefix q x ≡ read_item (form_of P k) s at
-  answer = sym (read_is P (rate_of k.device) s at (e ∙ ap prefix_bits d) b a)
-
-  pub item_whole : {f : Frame} {next : ℕ} → x ≡ Ok (f, next) → whole (q, f) next ≡ read_item (form_of P k) s at
-  item_whole w = ap (with_prefix q) (sym w) ∙ answer
-
-  pub item_cut : {h : Shortfall} → x ≡ Err h → cut h ≡ read_item (form_of P k) s at
-  item_cut w = ap (with_prefix q) (sym w) ∙ answer
-
 module _ (P : ℕ) (image : List ℕ) (k : Control) where
-  pub rom_whole : {r : Moved} {i : Item} {next : ℕ} → whole i next ≡ read_item (form_of P k) image k.address.position
-      → r ≡ frame_begun k i next k.fifo (rated i.0) → r ≡ from_rom image k (read_item (form_of P k) image k.address.position)
-  rom_whole e r = r ∙ ap (from_rom image k) e
-
-  pub rom_cut : {r : Moved} {p : ℕ} {h : Shortfall} {d : Details} → cut h ≡ read_item (form_of P k) image k.address.position → d ≡ out_of_rom h
-      → p ≡ max k.address.position (8 * length image) → r ≡ ran_out k p k.fifo d
-      → r ≡ from_rom image k (read_item (form_of P k) image k.address.position)
-  rom_cut e d m r = r ∙ rw (m, d) (ap (from_rom image k) e)
-
-  pub in_mode : {m : Mode} {r : Moved} → k.mode ≡ m → r ≡ boundary_in P m image k → r ≡ boundary_in P k.mode image k
-  in_mode e r = r ∙ ap (λ (m : Mode). boundary_in P m image k) (sym e)
-
   -- a step of the control
   pub advanced_silent : {r : Moved} → k.clock.sounding ≡ false → r ≡ record { control = k; action = Silent; report = NoReport; details = no_details }
       → r ≡ advanced_from P image k
@@ -84,20 +37,6 @@ module _ (P : ℕ) (image : List ℕ) (k : Control) where
       → a ≡ within k.clock → r ≡ record { control = d; action = a; report = NoReport; details = no_details } → r ≡ advanced_from P image k
   unfolding advanced_from
   advanced_within s t d a r = r ∙ rw (d, a) (sym (cond_true _ _ _ s ∙ cond_false _ _ _ t))
-
-module _ (P : ℕ) (k : Control) {r : Moved} where
-  module _ {i : Item} {next : ℕ} (e : whole i next ≡ read_item (form_of P k) (held_bytes k.fifo) k.fifo.used_bits) where
-    pub fifo_whole : (is_stop i.1 || ltb next (8 * k.fifo.level)) ≡ true → r ≡ frame_begun k i k.address.position (used_up k.fifo next) (of_frame i.0 (thrown_by k i.1 next))
-        → r ≡ from_fifo k (read_item (form_of P k) (held_bytes k.fifo) k.fifo.used_bits)
-    fifo_whole t r = r ∙ sym (cond_true _ _ _ t) ∙ ap (from_fifo k) e
-
-    pub fifo_ended : (is_stop i.1 || ltb next (8 * k.fifo.level)) ≡ false → r ≡ fifo_out k 0
-        → r ≡ from_fifo k (read_item (form_of P k) (held_bytes k.fifo) k.fifo.used_bits)
-    fifo_ended t r = r ∙ sym (cond_false _ _ _ t) ∙ ap (from_fifo k) e
-
-  pub fifo_cut : {h : Shortfall} → cut h ≡ read_item (form_of P k) (held_bytes k.fifo) k.fifo.used_bits → r ≡ fifo_out k h.missing
-      → r ≡ from_fifo k (read_item (form_of P k) (held_bytes k.fifo) k.fifo.used_bits)
-  fifo_cut e r = r ∙ ap (from_fifo k) e
 
 -- the FIFO of external speech
 pub external_fifo : (k : Control) → k.mode ≡ External → control_valid k ≡ true

@@ -153,5 +153,5 @@ pub fn voice_fault(file: &[u8], pitch_bits: PitchWidth, version: u8) -> Result<(
 pub fn voice_check(file: &[u8]) -> Result<(), Refusal>
     ensures { number_of_answer result ≡ voice_fault pitch_width version file.now }
 {
-    voice_fault(file, PitchWidth::tms5220(), VERSION)
+    voice_fault(file, PitchWidth::TMS5220, VERSION)
 }

@@ -1,6 +1,5 @@
-use borrow.Author.Rules.{rules}
+use Rattle.std.proofs.Common.{rules}
 use Rattle.rom.proofs.Checks.{valid_length}
-use native.Mathlib.Omega.{arith}
 use Rattle.voice.specs.Check.{version}
 use Rattle.control.proofs.Ranges.{control_in_ranges}
 use Rattle.chip.proofs.Ranges.{chip_ranges}
@@ -11,12 +10,12 @@ use Rattle.chip.proofs.state.Chip.take_step.Goals as goal
 pub advance-moved-requires : goal.advance-moved-requires
 advance-moved-requires c =
     let p : Passed c.args.image.now c.args.voice.now c.args.self = passed _ _ _ c.requires in
-    ((valid_length c.args.image.now p.image_valid_lem).1, omega arith, control_in_ranges _ (chip_ranges _ p.chip_valid).control)
+    ((valid_length c.args.image.now p.image_valid_lem).1, control_in_ranges _ (chip_ranges _ p.chip_valid).control)
 
 pub apply-sampled-requires : goal.apply-sampled-requires
 apply-sampled-requires c =
     let p : Passed c.args.image.now c.args.voice.now c.args.self = passed _ _ _ c.requires in
-    (omega arith, (version, p.voice_valid), rw c.advance-moved.ensures (kept _ _ _ p).playable, (chip_ranges _ p.chip_valid).sound)
+    ((version, p.voice_valid), rw c.advance-moved.ensures (kept _ _ _ p).playable, (chip_ranges _ p.chip_valid).sound)
 
 pub returns : goal.returns
 returns c =

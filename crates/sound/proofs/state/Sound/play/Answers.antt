@@ -11,9 +11,9 @@ use Rattle.sound.proofs.Samples.{excitation_range, step_is, sampled_ranges}
 use Rattle.sound.proofs.Validity.{SoundRanges, ranges}
 use Rattle.sound.proofs.state.Sound.play.Goals as goal
 
-pub loop-i-init : goal.loop-i-init
-loop-i-init c =
-    filled_none (sound_step _ _) SoundRanges _ _ (ranges _ c.requires.0)
+pub loop-value-init : goal.loop-value-init
+loop-value-init c =
+    filled_none (sound_step _ _) SoundRanges _ _ (ranges _ c.requires)
 
 pub filtered-requires : goal.filtered-requires
 filtered-requires c =

@@ -11,23 +11,23 @@ use Rattle.sound.proofs.state.Sound.sample.Goals as goal
 pub filtered-value-requires : goal.filtered-value-requires
 filtered-value-requires c =
     let a = c.args in
-    let ok : SoundRanges a.self = ranges a.self c.requires.0 in
+    let ok : SoundRanges a.self = ranges a.self c.requires in
     let excited : Between 128 127 c.excitation-x.result =
     rw c.excitation-x.ensures (excitation_range a.pitch_bits a.file.now c.is_voiced.result a.self.pulse a.self.noise) in
     (ok.current.k, ok.memory, passed tt ok.current.energy, passed tt excited)
 
 pub next_noise-noise-requires : goal.next_noise-noise-requires
 next_noise-noise-requires c =
-    let ok : SoundRanges c.args.self = ranges c.args.self c.requires.0 in
+    let ok : SoundRanges c.args.self = ranges c.args.self c.requires in
     search (rules, ok.noise_high)
 
 pub next_pulse-pulse-requires : goal.next_pulse-pulse-requires
-next_pulse-pulse-requires c = (ranges c.args.self c.requires.0).pulse
+next_pulse-pulse-requires c = (ranges c.args.self c.requires).pulse
 
 pub returns : goal.returns
 returns c =
     let a = c.args in
-    let ok : SoundRanges a.self = ranges a.self c.requires.0 in
+    let ok : SoundRanges a.self = ranges a.self c.requires in
     let v = c.filtered-value in
     let x = c.excitation-x in
     let excited : Between 128 127 x.result =
