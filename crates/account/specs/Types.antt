@@ -14,4 +14,4 @@ pub use Rattle.control.specs.declared.state.Control.{Control}
 pub use Rattle.control.specs.declared.commands.Command.{Command}
 pub use Rattle.control.specs.declared.commands.Command.TheVariants.{LoadFrameRate, ReadByte, ReadAndBranch, LoadAddress, Speak, SpeakExternal, Reset}
 pub use Rattle.chip.specs.declared.state.Chip.{Chip}
-pub use Rattle.chip.specs.declared.step.Stepped.{Stepped}
+pub use Rattle.chip.specs.Types.{Stepped}

@@ -16,10 +16,10 @@ use Rattle.chip.specs.State.{power_up_of}
 use Rattle.chip.specs.Step.{step_taken, step_fault, not_stepped, step_of}
 use Rattle.chip.specs.Validity.{valid}
 use Rattle.chip.specs.Write.{write_fault, not_written, write_of}
-use Rattle.chip.specs.declared.read.Acknowledged.{Acknowledged}
-use Rattle.chip.specs.declared.run.Ran.{Ran}
-use Rattle.chip.specs.declared.step.Stepped.{Stepped}
-use Rattle.chip.specs.declared.write.Written.{Written}
+use Rattle.chip.specs.Types.{Acknowledged}
+use Rattle.chip.specs.Types.{Ran}
+use Rattle.chip.specs.Types.{Stepped}
+use Rattle.chip.specs.Types.{Written}
 use Rattle.chip.proofs.BusCalls.{found}
 use Rattle.chip.proofs.Stepping.{passed}
 use Rattle.chip.proofs.KeptValid.{power_up_valid, write_keeps_valid, acknowledge_keeps_valid, step_keeps_valid, run_keeps_valid}

@@ -7,11 +7,11 @@ use Rattle.chip.specs.Run.{run_of, buffer_of}
 use Rattle.chip.specs.State.{power_up_of}
 use Rattle.chip.specs.Step.{step_of}
 use Rattle.chip.specs.Write.{write_of}
-use Rattle.chip.specs.declared.read.Acknowledged.{Acknowledged}
-use Rattle.chip.specs.declared.read.ByteRead.{ByteRead}
-use Rattle.chip.specs.declared.run.Ran.{Ran}
-use Rattle.chip.specs.declared.step.Stepped.{Stepped}
-use Rattle.chip.specs.declared.write.Written.{Written}
+use Rattle.chip.specs.Types.{Acknowledged}
+use Rattle.chip.specs.Types.{ByteRead}
+use Rattle.chip.specs.Types.{Ran}
+use Rattle.chip.specs.Types.{Stepped}
+use Rattle.chip.specs.Types.{Written}
 use Rattle.chip_numbers.specs.Types.{BitOrder, LeastFirst, MostFirst, Device, Tms5220, Tms5220C, Chip}
 use Rattle.chip_numbers.specs.Chips.{chip_numbers, chip_of}
 

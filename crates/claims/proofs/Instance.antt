@@ -32,8 +32,8 @@ use Rattle.chip.specs.Read.{acknowledged}
 use Rattle.chip.specs.Step.{step_taken, not_stepped, step_of}
 use Rattle.chip.specs.Run.{sample_step}
 use Rattle.chip.specs.declared.state.Chip.{Chip}
-use Rattle.chip.specs.declared.write.Written.{Written}
-use Rattle.chip.specs.declared.step.Stepped.{Stepped}
+use Rattle.chip.specs.Types.{Written}
+use Rattle.chip.specs.Types.{Stepped}
 use Rattle.control.proofs.Ranges.{mode_ranges}
 use Rattle.chip.proofs.Ranges.{chip_ranges}
 use Rattle.chip.proofs.BusCalls.{write_refused}

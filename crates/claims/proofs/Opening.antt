@@ -26,7 +26,7 @@ use Rattle.chip.specs.State.{power_up_of}
 use Rattle.chip.specs.Validity.{valid}
 use Rattle.chip.specs.Write.{write_of}
 use Rattle.chip.specs.declared.state.Chip.{Chip}
-use Rattle.chip.specs.declared.write.Written.{Written}
+use Rattle.chip.specs.Types.{Written}
 use Rattle.claims.specs.Writes.{after_bytes, refusals_of}
 use Rattle.claims.specs.Demand3.{Loads, load_bytes}
 use Rattle.claims.specs.Opening.{RateBytes, device_after, opening_bytes, Ready, Opening}

@@ -36,7 +36,7 @@ use Rattle.chip.specs.State.{power_up_5220c_with}
 use Rattle.chip.specs.Step.{step_taken}
 use Rattle.chip.specs.Write.{write_of}
 use Rattle.chip.specs.declared.state.Chip.{Chip}
-use Rattle.chip.specs.declared.step.Stepped.{Stepped}
+use Rattle.chip.specs.Types.{Stepped}
 use Rattle.claims.specs.Device.{rated_form, fault_of, chip_on, chip_table}
 use Rattle.claims.specs.Answers.{WritesRefused}
 use Rattle.claims.specs.Demand3.{SpeakByte}

@@ -15,10 +15,10 @@ use Rattle.chip.specs.Read.{read_of}
 use Rattle.chip.specs.Step.{step_of}
 use Rattle.chip.specs.Run.{run_of}
 use Rattle.chip.specs.declared.state.Chip.{Chip}
-use Rattle.chip.specs.declared.write.Written.{Written}
-use Rattle.chip.specs.declared.read.ByteRead.{ByteRead}
-use Rattle.chip.specs.declared.step.Stepped.{Stepped}
-use Rattle.chip.specs.declared.run.Ran.{Ran}
+use Rattle.chip.specs.Types.{Written}
+use Rattle.chip.specs.Types.{ByteRead}
+use Rattle.chip.specs.Types.{Stepped}
+use Rattle.chip.specs.Types.{Ran}
 
 -- the frames of the TMS5220 and TMS5200: without a prefix, each of 8 intervals, which are 200 samples
 abbrev pub chip_form : Form

@@ -1,5 +1,5 @@
 use mathlib.Core.Path.{ap, ◌∙◌}
-use Rattle.chip.specs.declared.read.ByteRead.{ByteRead}
+use Rattle.chip.specs.Types.{ByteRead}
 use Rattle.chip_numbers.specs.Chips.{chip_of}
 use Rattle.capi.specs.Operations.{numbers_after}
 use Rattle.capi.proofs.Valid.{read_valid, says}

@@ -6,7 +6,7 @@ use Rattle.base.proofs.Range.{back_at}
 use Rattle.reports.specs.Reports.{report_number, report_frame}
 use Rattle.chip.specs.Step.{not_stepped, step_of}
 use Rattle.chip.specs.Validity.{valid}
-use Rattle.chip.specs.declared.step.Stepped.{Stepped}
+use Rattle.chip.specs.Types.{Stepped}
 use Rattle.chip_numbers.specs.Chips.{chip_numbers, chip_of}
 use Rattle.answer_numbers.specs.Answers.{frame_bytes, step_bits}
 use Rattle.capi.proofs.Valid.{step_number, step_valid}

@@ -1,5 +1,5 @@
 use mathlib.Core.Path.{ap, ◌∙◌}
-use Rattle.chip.specs.declared.write.Written.{Written}
+use Rattle.chip.specs.Types.{Written}
 use Rattle.chip_numbers.specs.Chips.{chip_of}
 use Rattle.capi.specs.Operations.{numbers_after}
 use Rattle.capi.proofs.Valid.{write_valid, says}
