@@ -7,8 +7,10 @@ use native.Mathlib.Nat.{suc_inj}
 use native.Mathlib.Decide.{dec_lt}
 use native.Mathlib.Omega.{arith}
 use lib.IntN.{ℤ, pos}
-use lib.ListN.{length, take, drop, get_or, set, length-set, drop_of_length-le}
-use lib.Seq.{take-suc, take-set-le, length-take-le, take_all, take_at, drop_at, take-length, set_split}
+use lib.ListN.{length, take, drop, get_or, length-set, drop_of_length-le}
+use lib.Seq.{take-suc, take-set-le, length-take-le, take_all, take_at}
+use Rattle.std.proofs.Common.{add-one}
+use Rattle.std.proofs.lemmas.List.{drop-set}
 use Rattle.filter.specs.Filter.{forward_of, memory_of, forward, upper_memory, new_memory}
 use Rattle.filter.specs.Stages.{stage_forward, stage_memory, lowest_forward, lowest_memory}
 
@@ -37,19 +39,7 @@ upper_length (k ∷ ks) (m ∷ ms) x e = ap suc (upper_length ks ms x (suc_inj e
 
 -- ---- the lowest stages, in place
 
--- from the place of a store on
-drop_set : (l : List ℤ) (i : ℕ) (a : ℤ) → i < length l → drop i (set l i a) ≡ a ∷ drop (suc i) l
-drop_set l i a h = rw (set_split l i a h) (drop_at (take i l) (a ∷ drop (suc i) l) i (length-take-le i l (omega arith)))
-
 module _ (ks ms : List ℤ) (same : length ks ≡ length ms) where
-  -- no stage is left: forward value 1 is new memory 1
-  pub lowest_none : (f : ℤ) → 0 < length ms → set ms 0 f ≡ lowest_memory ks ms f 0
-  lowest_none f h = first ms h
-    where
-      first : (ms : List ℤ) → 0 < length ms → set ms 0 f ≡ take (length ms) (f ∷ drop 1 ms)
-      first [] h = absurd (omega arith)
-      first (m ∷ ms) h = ap (λ (l : List ℤ). f ∷ l) (sym (take-length ms))
-
   -- the lowest i + 1 stages are the stage at index i, and then those below it, which do not see what it stored
   module _ (f : ℤ) (i : ℕ) (h : i < length ms) where
     abbrev kᵢ : ℤ
@@ -85,7 +75,7 @@ module _ (ks ms : List ℤ) (same : length ks ≡ length ms) where
     -- with a memory above the stage, what it stored follows; the last stage's is cut off
     more_memory : Dec (suc i < length ms) → (a : ℤ)
         → take (length ms) (a ∷ (below ++ drop (suc i) mem)) ≡ take (length ms) (a ∷ ((below ++ bᵢ ∷ []) ++ drop (suc (suc i)) ms))
-    more_memory (yes l) a = rw (drop_set ms (suc i) bᵢ l, append_assoc)
+    more_memory (yes l) a = rw (drop-set ms (suc i) bᵢ l, add-one, append_assoc)
     more_memory (no l) a =
         let e : length ms ≡ suc i = omega arith in
         let n : length below ≡ i = upper_length (take i ks) (take i ms) fᵢ level ∙ length-take-le i ks (omega arith) in

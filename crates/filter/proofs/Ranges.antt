@@ -14,7 +14,7 @@ use Rattle.filter.specs.Ranges.{TenBetween}
 use Rattle.filter.specs.Stages.{stage_memory}
 use Rattle.filter.proofs.Lattice.{upper_length}
 
-pub saturated_range : (z : ℤ) → Between 8192 8191 (saturated z)
+saturated_range : (z : ℤ) → Between 8192 8191 (saturated z)
 saturated_range z = clamped_between 8192 8191 z
 
 -- ---- ten numbers

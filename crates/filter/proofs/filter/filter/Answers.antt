@@ -8,5 +8,4 @@ pub returns : goal.returns
 returns c =
     let a = c.args in
     let p = c.requires in
-    let z = whole a.k.now a.memory.now (p.0.size ∙ sym p.1.size) a.input 10 p.1.size in
-    search (rules, to_z-of_z, z, c.stages.ensures)
+    search (rules, to_z-of_z, whole a.k.now a.memory.now (p.0.size ∙ sym p.1.size) a.input 10 p.1.size, c.stages.ensures)
