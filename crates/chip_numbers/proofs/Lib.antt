@@ -1,4 +1,3 @@
-pub mod Signed
 pub mod Within
 pub mod Single
 pub mod Parts

@@ -1,63 +1,25 @@
 // The numbers of a chip's parts, in the order in which a trace prints them.
 ghost use Rattle.std.specs.Prelude.{◌≡◌};
-ghost use Rattle.chip_numbers.specs.Numbers.{flag, mode_number, kind_number, order_number};
 ghost use Rattle.chip_numbers.specs.Fields.{control_numbers, clock_numbers, later_numbers};
 
 use chip::state::Chip;
 use clock::Clock;
 use control::device::Device;
-use control::state::{Control, Mode};
-use fifo::BitOrder;
-
-fn flag(on: bool) -> u64
-    ensures { result ≡ flag on }
-{
-    if on { 1 } else { 0 }
-}
-
-fn mode_number(mode: Mode) -> u64
-    ensures { result ≡ mode_number mode }
-{
-    match mode {
-        Mode::Idle => 0,
-        Mode::Rom => 1,
-        Mode::Waiting => 2,
-        Mode::External => 3,
-    }
-}
-
-fn kind_number(device: Device) -> u64
-    ensures { result ≡ kind_number device }
-{
-    match device {
-        Device::Tms5220 => 0,
-        Device::Tms5220C(_) => 1,
-    }
-}
-
-fn order_number(order: BitOrder) -> u64
-    ensures { result ≡ order_number order }
-{
-    match order {
-        BitOrder::LeastFirst => 0,
-        BitOrder::MostFirst => 1,
-    }
-}
+use control::state::Control;
 
 // Mode, address register, port and FIFO, but for the FIFO's bytes.
 pub fn control_numbers(control: Control) -> [u64; 8]
     ensures { result ≡ control_numbers control }
 {
-    let mode = control.mode;
     [
-        mode_number(mode),
+        control.mode as u64,
         control.address.position as u64,
-        control.address.next_nibble as u64,
-        flag(control.port.pending),
-        control.port.data as u64,
-        flag(control.port.interrupt),
-        control.fifo.level as u64,
-        control.fifo.used_bits as u64,
+        u64::from(control.address.next_nibble),
+        u64::from(control.port.pending),
+        u64::from(control.port.data),
+        u64::from(control.port.interrupt),
+        u64::from(control.fifo.level),
+        u64::from(control.fifo.used_bits),
     ]
 }
 
@@ -65,14 +27,12 @@ pub fn control_numbers(control: Control) -> [u64; 8]
 pub fn clock_numbers(clock: Clock, noise: u32, pulse: u32) -> [u64; 5]
     ensures { result ≡ clock_numbers clock noise pulse }
 {
-    let sample = clock.sample;
-    let interval = clock.interval;
     [
-        flag(clock.sounding),
-        sample.count(),
-        interval.count(),
-        noise as u64,
-        pulse as u64,
+        u64::from(clock.sounding),
+        clock.sample.count(),
+        clock.interval.count(),
+        u64::from(noise),
+        u64::from(pulse),
     ]
 }
 
@@ -81,19 +41,14 @@ pub fn clock_numbers(clock: Clock, noise: u32, pulse: u32) -> [u64; 5]
 pub fn later_numbers(chip: Chip) -> [u64; 6]
     ensures { result ≡ later_numbers chip }
 {
-    let control = chip.control;
-    let device = control.device;
+    let device = chip.control.device;
     let rate = device.rate();
-    let fifo = control.fifo;
-    let order = fifo.order;
-    let port = control.port;
-    let busy = port.busy;
     [
-        kind_number(device),
-        rate.v as u64,
-        rate.rr as u64,
-        flag(chip.sound.hold),
-        order_number(order),
-        busy.count(),
+        u64::from(matches!(device, Device::Tms5220C(_))),
+        u64::from(rate.v),
+        u64::from(rate.rr),
+        u64::from(chip.sound.hold),
+        chip.control.fifo.order as u64,
+        chip.control.port.busy.count(),
     ]
 }

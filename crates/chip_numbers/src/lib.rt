@@ -3,4 +3,5 @@
 
 pub mod fields;
 pub mod from_numbers;
+pub mod putting;
 pub mod to_numbers;

@@ -1,24 +1,11 @@
 // The numbers of a list: what a field's value becomes as an i64, and what an i64 becomes as a field's value.
 ghost use Rattle.std.specs.Prelude.{◌≡◌, ◌≤◌};
-ghost use Rattle.trace_state.specs.Numbers.{wide, natural, short};
+ghost use Rattle.trace_state.specs.Numbers.{natural, short};
 
 use trace_script::STATE_LENGTH;
 
 // The numbers of a chip.
 pub type Numbers = [i64; STATE_LENGTH];
-
-// An i64 holds 63 bits of a natural number.
-pub(crate) fn wide(n: u64) -> i64
-    ensures { result ≡ wide n }
-{
-    (n % 0x8000_0000_0000_0000) as i64
-}
-
-pub(crate) fn long(z: i32) -> i64
-    ensures { result ≡ z }
-{
-    z as i64
-}
 
 // z where it is in 0..most, else the end that it lies beyond.
 pub(crate) fn natural(z: i64, most: u32) -> u32
