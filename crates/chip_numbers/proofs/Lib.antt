@@ -1,6 +1,5 @@
 pub mod Within
 pub mod Single
-pub mod Parts
 pub mod Places
 pub mod Pasting
 pub mod Theorems

@@ -3,4 +3,5 @@ pub mod Numbers
 pub mod Fields
 pub mod Chips
 pub mod Putting
+pub mod Reading
 pub mod Laws

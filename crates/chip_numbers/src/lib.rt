@@ -4,4 +4,5 @@
 pub mod fields;
 pub mod from_numbers;
 pub mod putting;
+pub mod reading;
 pub mod to_numbers;

@@ -6,7 +6,7 @@ ghost use Rattle.chip_numbers.specs.Chips.{chip_length, chip_numbers, chip_of};
 ghost use Rattle.chip_numbers.specs.Putting.{Put};
 
 use crate::fields::{clock_numbers, control_numbers, later_numbers};
-use crate::putting::{NumberList, put};
+use crate::putting::{PutNumbers, put};
 use chip::state::Chip;
 use sound::params::Params;
 
@@ -16,18 +16,18 @@ pub const LENGTH: usize = 69;
 pub type Numbers = [i32; LENGTH];
 
 // Twelve numbers, from number `at` on, counted from 0.
-fn put_params<L: NumberList>(numbers: &mut L, at: usize, params: Params)
-    requires { (length (L.list numbers.old) ≡ chip_length) × (at ≤ 51) }
-    ensures { Put (L.list numbers.old) at (param_numbers params) (at + 12) (L.list numbers.new) }
+fn put_params<N: PutNumbers>(numbers: &mut N, at: usize, params: Params)
+    requires { (length (N.list numbers.old) ≡ chip_length) × (at ≤ 51) }
+    ensures { Put (N.list numbers.old) at (param_numbers params) (at + 12) (N.list numbers.new) }
 {
     put(numbers, at, &[params.energy, params.pitch]);
     put(numbers, at + 2, &params.k);
 }
 
 // All of them.
-pub fn put_chip<L: NumberList>(numbers: &mut L, chip: Chip)
-    requires { length (L.list numbers.old) ≡ chip_length }
-    ensures { L.list numbers.new ≡ numbers_by L.natural chip }
+pub fn put_chip<N: PutNumbers>(numbers: &mut N, chip: Chip)
+    requires { length (N.list numbers.old) ≡ chip_length }
+    ensures { N.list numbers.new ≡ numbers_by N.natural chip }
 {
     let sound = chip.sound;
     put(numbers, 0, &control_numbers(chip.control));

@@ -1,14 +1,15 @@
 -- Fields' values as numbers of the list, and back.
 -- Assumes nothing.
-use mathlib.Core.Path.{◌≡◌, refl}
+use mathlib.Core.Path.{◌≡◌, refl, sym, ap, ◌∙◌}
 use mathlib.Core.Bool.{Bool, true, false}
-use mathlib.Core.List.{List, [], ◌∷◌, map}
-use Prim.Native.Nat.{ℕ, suc, ◌%◌, ◌^◌, ◌≤◌, ◌<◌}
+use mathlib.Core.List.{List, [], ◌∷◌, ◌++◌, map}
+use Prim.Native.Nat.{ℕ, zero, suc, ◌+◌, ◌%◌, ◌^◌, ◌≤◌, ◌<◌, min}
 use native.Mathlib.Omega.{arith}
 use lib.IntN.{ℤ, pos, negsuc, neg_ℤ, nat_abs}
-use lib.ListN.{get_or}
+use lib.ListN.{length, get_or, take, set}
 use lib.Signed.{lt_z}
 use borrow.Author.Tests.{ltb-true}
+use Rattle.std.proofs.lemmas.List.{map_more, take_more_set}
 use Rattle.base.specs.Range.{Between, clamped}
 use Rattle.base.proofs.Range.{not_less, is_not_less, ordered}
 use Rattle.base.proofs.Signed.{not_negative}
@@ -16,25 +17,7 @@ use Rattle.chip_numbers.specs.Types.{Mode, Idle, Rom, Waiting, External}
 use Rattle.chip_numbers.specs.Numbers.{flag, mode_number}
 use Rattle.trace_state.specs.Numbers.{wide, natural, short, flag_of, mode_of}
 
--- ---- natural numbers, held to 0..most
-
-pub negative_is : (z : ℤ) (most : ℕ) → lt_z z (pos 0) ≡ true → 0 ≡ natural most z
-negative_is (pos n) most e = absurd (omega (arith, ltb-true n 0 e))
-negative_is (negsuc n) most e = refl
-
-pub low_is : (z : ℤ) (most : ℕ) → lt_z z (pos 0) ≡ false → nat_abs z < most → nat_abs z ≡ natural most z
-low_is (pos n) most e h = omega arith
-low_is (negsuc n) most e h = absurd (not_negative (negsuc n) e)
-
-pub high_is : (z : ℤ) (most : ℕ) → lt_z z (pos 0) ≡ false → most ≤ nat_abs z → most ≡ natural most z
-high_is (pos n) most e h = omega arith
-high_is (negsuc n) most e h = absurd (not_negative (negsuc n) e)
-
 -- ---- 16 bits
-
-pub short_between : (z : ℤ) → lt_z z (neg_ℤ (pos 32768)) ≡ false → lt_z (pos 32767) z ≡ false → Between 32768 32767 z
-short_between z e f =
-    ordered z (omega (arith, not_less (pos 32767) z f)) (omega (arith, not_less z (neg_ℤ (pos 32768)) e))
 
 pub short_back : {z : ℤ} → Between 32768 32767 z → short z ≡ z
 unfolding clamped
@@ -43,6 +26,12 @@ short_back {z} h = rw (is_not_less z (neg_ℤ (pos 32768)) (omega arith), is_not
 pub shorts_back : (zs : List ℤ) → ((i : ℕ) → Between 32768 32767 (get_or zs i (pos 0))) → map short zs ≡ zs
 shorts_back [] h = refl
 shorts_back (z ∷ zs) h = rw (short_back (h 0), shorts_back zs (λ i. h (suc i)))
+
+-- one more of them
+pub shorts_more : (s out : List ℤ) (i : ℕ) (v : ℤ) → i < length s → i < length out → take i out ≡ map short (take i s)
+    → v ≡ short (get_or s i (pos 0)) → take (i + 1) (set out i v) ≡ map short (take (i + 1) s)
+shorts_more s out i v h k e f =
+    take_more_set out i v k ∙ ap (λ r. r ++ v ∷ []) e ∙ ap (λ y. map short (take i s) ++ y ∷ []) f ∙ sym (map_more short s i (pos 0) h)
 
 -- ---- a value in its range comes back
 
@@ -66,3 +55,16 @@ mode_back Idle = refl
 mode_back Rom = refl
 mode_back Waiting = refl
 mode_back External = refl
+
+-- ---- a mode beyond the last is the last
+
+pub mode_is : (z : ℤ) → get_or (Idle ∷ Rom ∷ Waiting ∷ []) (natural 3 z) External ≡ mode_of z
+mode_is (pos n) = of (min n 3) (omega arith)
+  where
+    of : (n : ℕ) → n ≤ 3 → get_or (Idle ∷ Rom ∷ Waiting ∷ []) n External ≡ get_or (Idle ∷ Rom ∷ Waiting ∷ External ∷ []) n Idle
+    of zero h = refl
+    of (suc zero) h = refl
+    of (suc (suc zero)) h = refl
+    of (suc (suc (suc zero))) h = refl
+    of (suc (suc (suc (suc n)))) h = absurd (omega arith)
+mode_is (negsuc n) = refl

@@ -2,7 +2,7 @@
 ghost use Rattle.std.specs.Prelude.{◌≡◌};
 ghost use Rattle.trace_state.specs.Fields.{state_numbers};
 
-use crate::numbers::Numbers;
+use crate::numbers::{List, Numbers};
 use chip::state::Chip;
 use chip_numbers::to_numbers::put_chip;
 use trace_script::STATE_LENGTH;
@@ -11,7 +11,7 @@ use trace_script::STATE_LENGTH;
 pub fn state_numbers(chip: Chip) -> Numbers
     ensures { result ≡ state_numbers chip }
 {
-    let mut numbers = [0; STATE_LENGTH];
-    put_chip(&mut numbers, chip);
-    numbers
+    let mut list = List([0; STATE_LENGTH]);
+    put_chip(&mut list, chip);
+    list.0
 }
