@@ -1,14 +1,14 @@
 -- Frames, bits and phrases as the numbers that a C caller gets.
-use Rattle.std.specs.Prelude.{List, [], ◌∷◌, ◌++◌, ℕ, ◌+◌, ◌/◌}
+use Rattle.std.specs.Prelude.{Option, List, [], ◌∷◌, ◌++◌, ℕ, ◌+◌, ◌/◌}
 use Rattle.base.specs.Refusals.{unless_fault}
 use Rattle.rom.specs.Frames.{numbers_of}
-use Rattle.rom.specs.declared.frames.MaybeFrame.{MaybeFrame}
-use Rattle.rom.specs.declared.phrases.Walked.{Walked}
-use Rattle.rom.specs.declared.reader.Shortfall.{Shortfall}
+use Rattle.base.specs.declared.refusal.Shortfall.{Shortfall}
+use Rattle.rom.specs.Phrases.{Walked}
+use Rattle.rom.specs.declared.frames.Frame.{Frame}
 use Rattle.reports.specs.declared.Details.{Details}
 
 -- a frame: kind, energy, pitch, K1 to K10, and its rate
-abbrev pub frame_bytes : MaybeFrame → ℕ → List ℕ
+abbrev pub frame_bytes : Option Frame → ℕ → List ℕ
 frame_bytes f rate = numbers_of f ++ (rate ∷ [])
 
 -- a step's bits: where the cut frame begins, those used up, those missing, those thrown away

@@ -1,6 +1,7 @@
 -- The operations of the C library on a chip: each is the operation of its name on the chip that the numbers say.
-use Rattle.std.specs.Prelude.{◌≡◌, cond, ◌||◌, List, [], ◌∷◌, ℕ, eqb, ltb, ℤ}
+use Rattle.std.specs.Prelude.{Result, Ok, Err, ◌≡◌, cond, ◌||◌, List, [], ◌∷◌, ℕ, eqb, ltb, ℤ}
 use Rattle.base.specs.Refusals.{TAKEN, STATE, first_fault, unless_fault}
+use Rattle.base.specs.declared.refusal.Refusal.{Refusal}
 use Rattle.rates.specs.Rates.{power_up_rate}
 use Rattle.chip.specs.Read.{read_fault, look_of, acknowledge_of, read_of}
 use Rattle.chip.specs.Run.{run_of, buffer_of}
@@ -22,6 +23,11 @@ abi = 1
 -- the numbers after a call that answered n and handed back the chip c; refused, they are as they were
 abbrev pub numbers_after : List ℤ → ℕ → Chip → List ℤ
 numbers_after s n c = unless_fault n (λ r. s) (chip_numbers c)
+
+-- the same by the answer of the call
+abbrev pub settled : List ℤ → Result Chip Refusal → List ℤ
+settled s (Ok next) = chip_numbers next
+settled s (Err r) = s
 
 -- where it is taken, they say that chip, so that the next call goes on from it
 abbrev pub SaysNext : List ℤ → ℕ → Chip → Type 0

@@ -1,18 +1,18 @@
 // What an image and a voice file hold, without a chip.
 ghost use Rattle.std.specs.Prelude.{◌≡◌};
 ghost use Rattle.rom.specs.Frames.{pitch_width};
-ghost use Rattle.rom.specs.Phrases.{walk_of};
+ghost use Rattle.rom.specs.Phrases.{walk_answer, walk_of};
 ghost use Rattle.rom.specs.Reader.{frame_taken_of};
-ghost use Rattle.rates.specs.Walks.{rated_walk_of, rated_taken_of};
+ghost use Rattle.rates.specs.Walks.{rated_walk_of, rated_taken_answer, rated_taken_of};
 ghost use Rattle.voice.specs.Check.{voice_fault, version};
 ghost use Rattle.answer_numbers.specs.Answers.{frame_bytes, frame_bits, walk_numbers};
 
-use answer_numbers::frames::{frame_bits, with_rate};
+use answer_numbers::frames::{taken_bits, taken_frame};
 use answer_numbers::walks::walk_numbers;
+use base::refusal::{Refusal, number_of};
 use rates::rate::FrameRate;
-use rom::frames::numbers as frame_numbers;
-use rom::phrases::walk;
-use rom::reader::frame_taken;
+use rom::phrases::{Extent, walk};
+use rom::reader::{Taken, frame_taken};
 use voice::checks::voice_check;
 
 // The refusal number of a voice file.
@@ -20,7 +20,18 @@ use voice::checks::voice_check;
 pub extern "C" fn tms_voice_check(voice: &[u8]) -> u8
     ensures { result ≡ voice_fault pitch_width version voice.now }
 {
-    voice_check(voice)
+    number_of(&voice_check(voice))
+}
+
+// Tells a frame taken: its numbers, its bits, and the call's number.
+fn tell_frame(answer: Result<Taken, Refusal>, frame: &mut [u8; 14], extent: &mut [usize; 3]) -> u8
+    ensures value { result ≡ (rated_taken_answer answer).refusal }
+    ensures frame_after { frame.new ≡ frame_bytes (rated_taken_answer answer).frame (rated_taken_answer answer).rate }
+    ensures extent_after { extent.new ≡ frame_bits (rated_taken_answer answer).bits (rated_taken_answer answer).short }
+{
+    *frame = taken_frame(answer);
+    *extent = taken_bits(answer);
+    number_of(&answer)
 }
 
 // The frame at a bit, on the TMS5220.
@@ -35,13 +46,7 @@ pub extern "C" fn tms_frame_at(
     ensures frame_after { frame.new ≡ frame_bytes (frame_taken_of pitch_width image.now bit).frame 0 }
     ensures extent_after { extent.new ≡ frame_bits (frame_taken_of pitch_width image.now bit).bits (frame_taken_of pitch_width image.now bit).short }
 {
-    let taken = frame_taken(image, bit);
-    let held = taken.frame;
-    let found = with_rate(frame_numbers(held), 0);
-    let counts = frame_bits(taken.bits, taken.short);
-    *frame = found;
-    *extent = counts;
-    taken.refusal
+    tell_frame(frame_taken(image, bit), frame, extent)
 }
 
 // The frame at a bit, on the TMS5220C, told v.
@@ -57,13 +62,16 @@ pub extern "C" fn tms_frame_at_5220c(
     ensures frame_after { frame.new ≡ frame_bytes (rated_taken_of pitch_width v image.now bit).frame (rated_taken_of pitch_width v image.now bit).rate }
     ensures extent_after { extent.new ≡ frame_bits (rated_taken_of pitch_width v image.now bit).bits (rated_taken_of pitch_width v image.now bit).short }
 {
-    let taken = rates::walks::frame_taken(image, bit, v);
-    let held = taken.frame;
-    let found = with_rate(frame_numbers(held), taken.rate);
-    let counts = frame_bits(taken.bits, taken.short);
-    *frame = found;
-    *extent = counts;
-    taken.refusal
+    tell_frame(rates::walks::frame_taken(image, bit, v), frame, extent)
+}
+
+// Tells a walk from a byte address: its numbers, and the call's number.
+fn tell_walk(address: usize, answer: Result<Extent, Refusal>, phrase: &mut [usize; 8]) -> u8
+    ensures value { result ≡ (walk_answer answer).refusal }
+    ensures phrase_after { phrase.new ≡ walk_numbers address (walk_answer answer) }
+{
+    *phrase = walk_numbers(address, answer);
+    number_of(&answer)
 }
 
 // The walk from a byte address, on the TMS5220.
@@ -72,10 +80,7 @@ pub extern "C" fn tms_walk(image: &[u8], address: usize, phrase: &mut [usize; 8]
     ensures value { result ≡ (walk_of pitch_width image.now address).refusal }
     ensures phrase_after { phrase.new ≡ walk_numbers address (walk_of pitch_width image.now address) }
 {
-    let walked = walk(image, address);
-    let found = walk_numbers(address, walked);
-    *phrase = found;
-    walked.refusal
+    tell_walk(address, walk(image, address), phrase)
 }
 
 // The same on the TMS5220C, told v and rr.
@@ -91,8 +96,5 @@ pub extern "C" fn tms_walk_5220c(
     ensures phrase_after { phrase.new ≡ walk_numbers address (rated_walk_of pitch_width (record { v = v; rr = rr }) image.now address) }
 {
     let rate = FrameRate { v, rr };
-    let walked = rates::walks::walk(image, address, rate);
-    let found = walk_numbers(address, walked);
-    *phrase = found;
-    walked.refusal
+    tell_walk(address, rates::walks::walk(image, address, rate), phrase)
 }

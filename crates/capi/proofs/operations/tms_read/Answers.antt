@@ -1,16 +1,11 @@
-use mathlib.Core.Path.{ap, ◌∙◌}
+use Rattle.std.proofs.Common.{ap, ◌∙◌}
 use Rattle.chip.specs.Types.{ByteRead}
+use Rattle.chip.specs.Validity.{valid}
 use Rattle.chip_numbers.specs.Chips.{chip_of}
-use Rattle.capi.specs.Operations.{numbers_after}
-use Rattle.capi.proofs.Valid.{read_valid, says}
+use Rattle.capi.proofs.Valid.{read_valid}
 use Rattle.capi.proofs.operations.tms_read.Goals as goal
 
-pub returns : goal.returns
-returns c =
-    let w = rw c.chip_of-held.ensures at c.read-got.ensures in
-    record {
-      value = ap (λ (w : ByteRead). w.refusal) w;
-      chip_after = c.put_after.ensures.chip_after ∙ ap (λ (w : ByteRead). numbers_after c.args.chip.now w.refusal w.chip) w;
-      says_next = says (λ (w : ByteRead). w.refusal) (λ (w : ByteRead). w.chip) _ w c.put_after.ensures.says_next (read_valid (chip_of c.args.chip.now));
-      byte_after = ap (λ (w : ByteRead). w.byte) w;
-    }
+pub returns-in-Ok-clause-says_next : goal.returns-in-Ok-clause-says_next
+returns-in-Ok-clause-says_next c =
+    let w = rw c.chip_of.ensures at c.in-Ok.ensures in
+    λ z. c.settle.ensures.says_next (ap (λ (w : ByteRead). valid w.chip) w ∙ read_valid (chip_of c.args.chip.now) z) ∙ ap (λ (w : ByteRead). w.chip) w
