@@ -51,10 +51,11 @@ impl Port {
         0 < self.busy.count()
     }
 
-    pub fn with_busy(self, busy: Samples) -> Port
+    pub fn with_busy(mut self, busy: Samples) -> Port
         ensures { result ≡ with_busy busy self }
     {
-        Port { busy, ..self }
+        self.busy = busy;
+        self
     }
 }
 
@@ -80,28 +81,33 @@ impl Control {
         }
     }
 
-    pub fn with_mode(self, mode: Mode) -> Control
+    // The control with one of its parts changed. A store costs less than `Control { port, ..self }`, which copies each field by itself.
+    pub fn with_mode(mut self, mode: Mode) -> Control
         ensures { result ≡ with_mode mode self }
     {
-        Control { mode, ..self }
+        self.mode = mode;
+        self
     }
 
-    pub fn with_address(self, address: AddressRegister) -> Control
+    pub fn with_address(mut self, address: AddressRegister) -> Control
         ensures { result ≡ with_address address self }
     {
-        Control { address, ..self }
+        self.address = address;
+        self
     }
 
-    pub fn with_fifo(self, fifo: Fifo) -> Control
+    pub fn with_fifo(mut self, fifo: Fifo) -> Control
         ensures { result ≡ with_fifo fifo self }
     {
-        Control { fifo, ..self }
+        self.fifo = fifo;
+        self
     }
 
-    pub fn with_port(self, port: Port) -> Control
+    pub fn with_port(mut self, port: Port) -> Control
         ensures { result ≡ with_port port self }
     {
-        Control { port, ..self }
+        self.port = port;
+        self
     }
 
     // The control after some samples, of which a busy chip counts each.
@@ -111,15 +117,17 @@ impl Control {
         self.with_port(self.port.with_busy(self.port.busy.less(passed)))
     }
 
-    pub fn with_clock(self, clock: Clock) -> Control
+    pub fn with_clock(mut self, clock: Clock) -> Control
         ensures { result ≡ with_clock clock self }
     {
-        Control { clock, ..self }
+        self.clock = clock;
+        self
     }
 
-    pub fn with_device(self, device: Device) -> Control
+    pub fn with_device(mut self, device: Device) -> Control
         ensures { result ≡ with_device device self }
     {
-        Control { device, ..self }
+        self.device = device;
+        self
     }
 }
