@@ -13,8 +13,7 @@ fn buffer(control: Control, byte: u8) -> Control
     requires { control.fifo.level < fifo_size }
     ensures { result ≡ buffered control byte }
 {
-    let fifo = control.fifo;
-    control.with_fifo(fifo.append(byte))
+    control.with_fifo(control.fifo.append(byte))
 }
 
 // A byte and its command, of which the caller has tested that it need not wait, on a control that it has tested. So the
@@ -25,14 +24,12 @@ pub fn accept(control: Control, image: &[u8], byte: u8, command: Command) -> Acc
         × (waits_now control command ≡ false) }
     ensures { result ≡ accepted image.now control byte }
 {
-    let mode = control.mode;
-    match mode {
+    match control.mode {
         Mode::Idle => obey(control, image, byte, command),
         Mode::Rom => reset(control),
         Mode::Waiting => {
-            let level = control.fifo.level;
             let next = buffer(control, byte);
-            if level + 1 == Control::START_LEVEL {
+            if next.fifo.level == Control::START_LEVEL {
                 talk(next, Mode::External)
             } else {
                 sound_kept(next)

@@ -28,10 +28,8 @@ pub(crate) fn sound_kept(control: Control) -> Accepted
 pub(crate) fn talk(control: Control, mode: Mode) -> Accepted
     ensures { result ≡ talking mode control }
 {
-    let clock = control.clock;
-    let next = control.with_mode(mode).with_clock(clock.start());
     Accepted {
-        control: next,
+        control: control.with_mode(mode).with_clock(control.clock.start()),
         rests: true,
     }
 }
@@ -39,12 +37,8 @@ pub(crate) fn talk(control: Control, mode: Mode) -> Accepted
 pub(crate) fn reset(control: Control) -> Accepted
     ensures { result ≡ reset control }
 {
-    let device = control.device;
-    let fifo = control.fifo;
-    let order = fifo.order;
-    let next = Control::power_up(device.power_up(), order);
     Accepted {
-        control: next,
+        control: Control::power_up(control.device.power_up(), control.fifo.order),
         rests: true,
     }
 }
@@ -52,8 +46,7 @@ pub(crate) fn reset(control: Control) -> Accepted
 fn drop_data(control: Control) -> Control
     ensures { result ≡ data_dropped control }
 {
-    let port = control.port;
-    control.with_port(port.drop_data())
+    control.with_port(control.port.drop_data())
 }
 
 // The port with the byte at the position as its data.
@@ -61,13 +54,10 @@ fn take_data(control: Control, image: &[u8]) -> Port
     requires { control.address.position ≤ position_limit }
     ensures { result ≡ data_taken image.now control }
 {
-    let position = control.address.position;
-    let busy = control.port.busy;
     Port {
         pending: true,
-        data: field_at(image, position, 8),
-        interrupt: control.port.interrupt,
-        busy,
+        data: field_at(image, control.address.position, 8),
+        ..control.port
     }
 }
 
@@ -75,8 +65,8 @@ fn take_data(control: Control, image: &[u8]) -> Port
 fn keep_busy(control: Control) -> Control
     ensures { result ≡ kept_busy control }
 {
-    let port = control.port;
-    control.with_port(port.drop_data().with_busy(Samples::of(Port::BRANCH_TIME)))
+    let busy = Samples::of(Port::BRANCH_TIME);
+    control.with_port(control.port.drop_data().with_busy(busy))
 }
 
 // What a command does.
@@ -85,10 +75,9 @@ pub(crate) fn obey(control: Control, image: &[u8], byte: u8, command: Command) -
     ensures { result ≡ obeyed image.now control byte command }
 {
     let address = control.address;
-    let device = control.device;
     let dropped = drop_data(control);
     match command {
-        Command::LoadFrameRate => sound_kept(dropped.with_device(device.load_rate(byte))),
+        Command::LoadFrameRate => sound_kept(dropped.with_device(control.device.load_rate(byte))),
         Command::ReadByte => {
             let port = take_data(control, image);
             sound_kept(control.with_port(port).with_address(address.pass_byte()))

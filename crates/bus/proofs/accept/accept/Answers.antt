@@ -26,13 +26,15 @@ pub returns-in-Rom : goal.returns-in-Rom
 returns-in-Rom c =
     in_mode _ _ _ c.in-Rom.is c.reset.ensures
 
-pub returns-then-level-eq-START_LEVEL : goal.returns-then-level-eq-START_LEVEL
-returns-then-level-eq-START_LEVEL c =
-    in_mode _ _ _ c.in-Waiting.is (rw c.buffer-next.ensures at c.talk.ensures ∙ sym (cond_true _ _ _ (eq-eqb _ _ c.if-level-eq-START_LEVEL.true)))
+pub returns-then-next-eq-START_LEVEL : goal.returns-then-next-eq-START_LEVEL
+returns-then-next-eq-START_LEVEL c =
+    let level = rw c.buffer-next.ensures at c.if-next-eq-START_LEVEL.true in
+    in_mode _ _ _ c.in-Waiting.is (rw c.buffer-next.ensures at c.talk.ensures ∙ sym (cond_true _ _ _ (eq-eqb _ _ level)))
 
-pub returns-else-level-eq-START_LEVEL : goal.returns-else-level-eq-START_LEVEL
-returns-else-level-eq-START_LEVEL c =
-    in_mode _ _ _ c.in-Waiting.is (rw c.buffer-next.ensures at c.sound_kept.ensures ∙ sym (cond_false _ _ _ (ne_eqb _ _ c.if-level-eq-START_LEVEL.false)))
+pub returns-else-next-eq-START_LEVEL : goal.returns-else-next-eq-START_LEVEL
+returns-else-next-eq-START_LEVEL c =
+    let level = rw c.buffer-next.ensures at c.if-next-eq-START_LEVEL.false in
+    in_mode _ _ _ c.in-Waiting.is (rw c.buffer-next.ensures at c.sound_kept.ensures ∙ sym (cond_false _ _ _ (ne_eqb _ _ level)))
 
 pub returns-in-External : goal.returns-in-External
 returns-in-External c =
