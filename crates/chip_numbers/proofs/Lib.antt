@@ -1,5 +1,5 @@
-pub mod Within
 pub mod Single
 pub mod Places
 pub mod Pasting
 pub mod Theorems
+pub mod Read

@@ -5,6 +5,7 @@ use Rattle.base.specs.Units.{samples, intervals}
 use Rattle.chip_numbers.specs.Types.{Device, Tms5220, Tms5220C, AddressRegister, Fifo, Port, Clock, Params, Sound, Chip}
 use Rattle.chip_numbers.specs.Numbers.{number, byte_of, flag_of, order_of, mode_of}
 use Rattle.chip_numbers.specs.Fields.{nth, numbers_by}
+use Rattle.chip_numbers.specs.Reading.{Reading}
 
 -- how many there are
 abbrev pub chip_length : ℕ
@@ -117,4 +118,14 @@ unfoldable pub chip_of : List ℤ → Chip
 chip_of s = record {
   control = record { mode = mode_of (nth s 0); address = address_of s; fifo = fifo_of s; port = port_of s; clock = clock_of s; device = device_of s };
   sound = sound_of s;
+}
+
+-- numbers that fit, read as they are
+abbrev pub as_held : Reading
+as_held = record {
+  natural = λ most. pos_part;
+  byte = byte_of;
+  level = λ z. z;
+  signed = λ z. z;
+  held_level = level_of;
 }

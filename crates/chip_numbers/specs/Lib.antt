@@ -1,7 +1,7 @@
 pub mod Types
 pub mod Numbers
 pub mod Fields
+pub mod Reading
 pub mod Chips
 pub mod Putting
-pub mod Reading
 pub mod Laws

@@ -1,5 +1,5 @@
 -- The chip that a list of numbers says, where a reading says what each number is as a field.
-use Rattle.std.specs.Prelude.{Bool, cond, List, [], ◌∷◌, ℕ, ◌+◌, eqb, ℤ, get_or}
+use Rattle.std.specs.Prelude.{Bool, cond, List, [], ◌∷◌, map, ℕ, ◌+◌, eqb, ℤ, get_or, take, drop}
 use Rattle.base.specs.Units.{samples, intervals}
 use Rattle.chip_numbers.specs.Types.{BitOrder, LeastFirst, MostFirst, Device, Tms5220, Tms5220C, Mode, Idle, Rom, Waiting, External, AddressRegister, Fifo, Port, Clock, Params, Sound, Chip}
 use Rattle.chip_numbers.specs.Fields.{nth}
@@ -11,11 +11,10 @@ pub record Reading : Type 0 where
   pub byte : ℤ → ℕ
   -- energy or pitch
   pub level : ℤ → ℤ
-  -- the FIFO's bytes and how many of them it holds, of all the numbers
-  pub held : List ℤ → List ℕ
+  -- K or filter memory
+  pub signed : ℤ → ℤ
+  -- how many bytes the FIFO holds, of all the numbers
   pub held_level : List ℤ → ℕ
-  -- K or filter memory, ten from a number on
-  pub ten : ℕ → List ℤ → List ℤ
 
 abbrev pub flag_by : Reading → ℤ → Bool
 flag_by r z = eqb (r.natural 1 z) 1
@@ -26,11 +25,19 @@ order_by r z = cond (flag_by r z) MostFirst LeastFirst
 abbrev pub mode_by : Reading → ℤ → Mode
 mode_by r z = get_or (Idle ∷ Rom ∷ Waiting ∷ []) (r.natural 3 z) External
 
+-- ten from number `at` on
+abbrev pub ten_by : Reading → List ℤ → ℕ → List ℤ
+ten_by r s at = map r.signed (take 10 (drop at s))
+
+-- the FIFO's bytes
+abbrev pub held_by : Reading → List ℤ → List ℕ
+held_by r s = map r.byte (take 16 (drop 8 s))
+
 abbrev pub address_by : Reading → List ℤ → AddressRegister
 address_by r s = record { position = r.natural 4294967295 (nth s 1); next_nibble = r.byte (nth s 2) }
 
 abbrev pub fifo_by : Reading → List ℤ → Fifo
-fifo_by r s = record { bytes = r.held s; level = r.held_level s; used_bits = r.byte (nth s 7); order = order_by r (nth s 67) }
+fifo_by r s = record { bytes = held_by r s; level = r.held_level s; used_bits = r.byte (nth s 7); order = order_by r (nth s 67) }
 
 abbrev pub port_by : Reading → List ℤ → Port
 port_by r s = record {
@@ -51,13 +58,13 @@ abbrev pub device_by : Reading → List ℤ → Device
 device_by r s = cond (flag_by r (nth s 63)) (Tms5220C (record { v = r.byte (nth s 64); rr = r.byte (nth s 65) })) Tms5220
 
 abbrev pub params_by : Reading → List ℤ → ℕ → Params
-params_by r s at = record { energy = r.level (nth s at); pitch = r.level (nth s (at + 1)); k = r.ten (at + 2) s }
+params_by r s at = record { energy = r.level (nth s at); pitch = r.level (nth s (at + 1)); k = ten_by r s (at + 2) }
 
 abbrev pub sound_by : Reading → List ℤ → Sound
 sound_by r s = record {
   current = params_by r s 29;
   target = params_by r s 41;
-  memory = r.ten 53 s;
+  memory = ten_by r s 53;
   noise = r.natural 32767 (nth s 27);
   pulse = r.natural 32767 (nth s 28);
   hold = flag_by r (nth s 66);

@@ -1,13 +1,12 @@
 // Whether numbers fit their fields, and the chip that they say.
-ghost use Rattle.std.specs.Prelude.{◌≡◌, map, ◌+◌, ◌≤◌, length, take, drop};
-ghost use Rattle.base.specs.Range.{pos_part};
-ghost use Rattle.chip_numbers.specs.Numbers.{byte_of};
-ghost use Rattle.chip_numbers.specs.Chips.{chip_length, within, rate_fits, fits, level_of, chip_of};
+ghost use Rattle.std.specs.Prelude.{◌≡◌, ◌+◌, ◌≤◌, length, drop};
+ghost use Rattle.chip_numbers.specs.Numbers.{number};
+ghost use Rattle.chip_numbers.specs.Chips.{chip_length, within, rate_fits, fits, chip_of};
 
-use crate::reading::{ReadNumbers, read_chip};
-use crate::to_numbers::{LENGTH, Numbers};
+use crate::list::NumberList;
+use crate::reading::read_chip;
+use crate::to_numbers::Numbers;
 use chip::state::Chip;
-use filter::filter::STAGES;
 use filter::range::is_inside;
 
 const ANY: i32 = 0x7FFF_FFFF;
@@ -61,51 +60,62 @@ fn fits(numbers: &Numbers) -> bool
         & rate_fits(numbers)
 }
 
-// What `fits` has tested is read as it is.
-impl ReadNumbers for [i32; LENGTH] {
-    ghost list = { λ numbers. numbers };
+// The numbers that a C caller holds.
+#[derive(Drop)]
+pub(crate) struct Held {
+    pub(crate) numbers: Numbers,
+    ghost whole: { length numbers ≡ chip_length },
+}
 
-    ghost reading = { record { natural = λ _. pos_part; byte = byte_of; level = λ z. z; held = λ s. map byte_of (take 16 (drop 8 s)); held_level = level_of; ten = λ at s. take 10 (drop at s) } };
+// An i32 holds 31 bits of a natural number, and what `fits` has tested is read as it is.
+impl NumberList for Held {
+    ghost use Rattle.chip_numbers.specs.Chips.{as_held};
+
+    ghost list = { λ held. held.numbers };
+
+    ghost natural = { number };
+
+    ghost reading = { as_held };
+
+    fn set_natural(&mut self, i: usize, n: u64) {
+        self.numbers[i] = (n % 0x8000_0000) as i32;
+    }
+
+    fn set_signed(&mut self, i: usize, z: i32) {
+        self.numbers[i] = z;
+    }
 
     fn natural_at(&self, i: usize, _most: u32) -> u32 {
-        self[i].max(0).cast_unsigned()
+        self.numbers[i].max(0).cast_unsigned()
     }
 
     fn byte_at(&self, i: usize) -> u8 {
-        (self[i] & 255) as u8
+        (self.numbers[i] & 255) as u8
     }
 
     fn level_at(&self, i: usize) -> i32 {
-        self[i]
+        self.numbers[i]
     }
 
-    fn ten_at(&self, at: usize) -> [i32; STAGES] {
-        let mut ten = [0; STAGES];
-        ten.copy_from_slice(&self[at..at + STAGES]);
-        ten
-    }
-
-    fn held(&self) -> [u8; 16] {
-        let mut bytes = [0; 16];
-        for (i, byte) in bytes.iter_mut().enumerate() {
-            *byte = self.byte_at(8 + i);
-        }
-        bytes
+    fn signed_at(&self, i: usize) -> i32 {
+        self.numbers[i]
     }
 
     // Of numbers that are no chip's, the level of no valid chip.
     fn held_level(&self) -> u8 {
-        if fits(self) {
+        if fits(&self.numbers) {
             self.byte_at(6)
         } else {
             NO_LEVEL
         }
     }
+
+    ghost whole = { λ held. held.whole };
 }
 
 // The chip that the numbers say; one that is not valid, where they are no chip's.
 pub fn chip_of(held: &Numbers) -> Chip
     ensures { result ≡ chip_of held.now }
 {
-    read_chip(held)
+    read_chip(&Held { numbers: *held })
 }

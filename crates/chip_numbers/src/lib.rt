@@ -3,6 +3,7 @@
 
 pub mod fields;
 pub mod from_numbers;
+pub mod list;
 pub mod putting;
 pub mod reading;
 pub mod to_numbers;

@@ -1,9 +1,10 @@
 // The chip that a list of numbers says.
-ghost use Rattle.std.specs.Prelude.{◌≡◌, List, ◌<◌, ◌≤◌, ℤ};
+ghost use Rattle.std.specs.Prelude.{◌≡◌, ◌<◌, ◌≤◌};
 ghost use Rattle.chip_numbers.specs.Chips.{chip_length};
 ghost use Rattle.chip_numbers.specs.Fields.{nth};
-ghost use Rattle.chip_numbers.specs.Reading.{Reading, flag_by, order_by, mode_by, address_by, fifo_by, port_by, clock_by, device_by, params_by, sound_by, chip_by};
+ghost use Rattle.chip_numbers.specs.Reading.{flag_by, order_by, mode_by, ten_by, held_by, address_by, fifo_by, port_by, clock_by, device_by, params_by, sound_by, chip_by};
 
+use crate::list::NumberList;
 use address::AddressRegister;
 use base::units::{Intervals, Samples};
 use chip::state::Chip;
@@ -16,47 +17,14 @@ use rates::rate::FrameRate;
 use sound::params::Params;
 use sound::state::Sound;
 
-// A chip's numbers, and how they are read as its fields.
-pub trait ReadNumbers {
-    ghost list: { Self → List ℤ };
-
-    ghost reading: { Reading };
-
-    // A natural number; a trace has at most `most` there.
-    fn natural_at(&self, i: usize, most: u32) -> u32
-        requires { i < chip_length }
-        ensures { result ≡ reading.natural most (nth (list self.now) i) };
-
-    fn byte_at(&self, i: usize) -> u8
-        requires { i < chip_length }
-        ensures { result ≡ reading.byte (nth (list self.now) i) };
-
-    // Energy or pitch.
-    fn level_at(&self, i: usize) -> i32
-        requires { i < chip_length }
-        ensures { result ≡ reading.level (nth (list self.now) i) };
-
-    // K or filter memory, from number `at` on.
-    fn ten_at(&self, at: usize) -> [i32; STAGES]
-        requires { at ≤ 53 }
-        ensures { result ≡ reading.ten at (list self.now) };
-
-    // The FIFO's bytes, and how many of them it holds.
-    fn held(&self) -> [u8; 16]
-        ensures { result ≡ reading.held (list self.now) };
-
-    fn held_level(&self) -> u8
-        ensures { result ≡ reading.held_level (list self.now) };
-}
-
-fn flag_at<N: ReadNumbers>(numbers: &N, i: usize) -> bool
+fn flag_at<N: NumberList>(numbers: &N, i: usize) -> bool
     requires { i < chip_length }
     ensures { result ≡ flag_by N.reading (nth (N.list numbers.now) i) }
 {
     numbers.natural_at(i, 1) == 1
 }
 
-fn mode_at<N: ReadNumbers>(numbers: &N, i: usize) -> Mode
+fn mode_at<N: NumberList>(numbers: &N, i: usize) -> Mode
     requires { i < chip_length }
     ensures { result ≡ mode_by N.reading (nth (N.list numbers.now) i) }
 {
@@ -68,7 +36,7 @@ fn mode_at<N: ReadNumbers>(numbers: &N, i: usize) -> Mode
     }
 }
 
-fn order_at<N: ReadNumbers>(numbers: &N, i: usize) -> BitOrder
+fn order_at<N: NumberList>(numbers: &N, i: usize) -> BitOrder
     requires { i < chip_length }
     ensures { result ≡ order_by N.reading (nth (N.list numbers.now) i) }
 {
@@ -79,7 +47,29 @@ fn order_at<N: ReadNumbers>(numbers: &N, i: usize) -> BitOrder
     }
 }
 
-fn address_of<N: ReadNumbers>(numbers: &N) -> AddressRegister
+// Ten numbers, from number `at` on.
+fn ten_of<N: NumberList>(numbers: &N, at: usize) -> [i32; STAGES]
+    requires { at ≤ 53 }
+    ensures { result ≡ ten_by N.reading (N.list numbers.now) at }
+{
+    let mut ten = [0; STAGES];
+    for (i, z) in ten.iter_mut().enumerate() {
+        *z = numbers.signed_at(at + i);
+    }
+    ten
+}
+
+fn held_of<N: NumberList>(numbers: &N) -> [u8; 16]
+    ensures { result ≡ held_by N.reading (N.list numbers.now) }
+{
+    let mut bytes = [0; 16];
+    for (i, byte) in bytes.iter_mut().enumerate() {
+        *byte = numbers.byte_at(8 + i);
+    }
+    bytes
+}
+
+fn address_of<N: NumberList>(numbers: &N) -> AddressRegister
     ensures { result ≡ address_by N.reading (N.list numbers.now) }
 {
     AddressRegister {
@@ -88,18 +78,18 @@ fn address_of<N: ReadNumbers>(numbers: &N) -> AddressRegister
     }
 }
 
-fn fifo_of<N: ReadNumbers>(numbers: &N) -> Fifo
+fn fifo_of<N: NumberList>(numbers: &N) -> Fifo
     ensures { result ≡ fifo_by N.reading (N.list numbers.now) }
 {
     Fifo {
-        bytes: numbers.held(),
+        bytes: held_of(numbers),
         level: numbers.held_level(),
         used_bits: numbers.byte_at(7),
         order: order_at(numbers, 67),
     }
 }
 
-fn port_of<N: ReadNumbers>(numbers: &N) -> Port
+fn port_of<N: NumberList>(numbers: &N) -> Port
     ensures { result ≡ port_by N.reading (N.list numbers.now) }
 {
     Port {
@@ -110,7 +100,7 @@ fn port_of<N: ReadNumbers>(numbers: &N) -> Port
     }
 }
 
-fn clock_of<N: ReadNumbers>(numbers: &N) -> Clock
+fn clock_of<N: NumberList>(numbers: &N) -> Clock
     ensures { result ≡ clock_by N.reading (N.list numbers.now) }
 {
     Clock {
@@ -120,7 +110,7 @@ fn clock_of<N: ReadNumbers>(numbers: &N) -> Clock
     }
 }
 
-fn device_of<N: ReadNumbers>(numbers: &N) -> Device
+fn device_of<N: NumberList>(numbers: &N) -> Device
     ensures { result ≡ device_by N.reading (N.list numbers.now) }
 {
     if flag_at(numbers, 63) {
@@ -134,31 +124,31 @@ fn device_of<N: ReadNumbers>(numbers: &N) -> Device
 }
 
 // The parameters from number `at` on.
-fn params_of<N: ReadNumbers>(numbers: &N, at: usize) -> Params
+fn params_of<N: NumberList>(numbers: &N, at: usize) -> Params
     requires { at ≤ 51 }
     ensures { result ≡ params_by N.reading (N.list numbers.now) at }
 {
     Params {
         energy: numbers.level_at(at),
         pitch: numbers.level_at(at + 1),
-        k: numbers.ten_at(at + 2),
+        k: ten_of(numbers, at + 2),
     }
 }
 
-fn sound_of<N: ReadNumbers>(numbers: &N) -> Sound
+fn sound_of<N: NumberList>(numbers: &N) -> Sound
     ensures { result ≡ sound_by N.reading (N.list numbers.now) }
 {
     Sound {
         current: params_of(numbers, 29),
         target: params_of(numbers, 41),
-        memory: numbers.ten_at(53),
+        memory: ten_of(numbers, 53),
         noise: numbers.natural_at(27, 32767),
         pulse: numbers.natural_at(28, 32767),
         hold: flag_at(numbers, 66),
     }
 }
 
-pub fn read_chip<N: ReadNumbers>(numbers: &N) -> Chip
+pub fn read_chip<N: NumberList>(numbers: &N) -> Chip
     ensures { result ≡ chip_by N.reading (N.list numbers.now) }
 {
     Chip {

@@ -6,7 +6,9 @@ ghost use Rattle.chip_numbers.specs.Chips.{chip_length, chip_numbers, chip_of};
 ghost use Rattle.chip_numbers.specs.Putting.{Put};
 
 use crate::fields::{clock_numbers, control_numbers, later_numbers};
-use crate::putting::{PutNumbers, put};
+use crate::from_numbers::Held;
+use crate::list::NumberList;
+use crate::putting::put;
 use chip::state::Chip;
 use sound::params::Params;
 
@@ -16,8 +18,8 @@ pub const LENGTH: usize = 69;
 pub type Numbers = [i32; LENGTH];
 
 // Twelve numbers, from number `at` on, counted from 0.
-fn put_params<N: PutNumbers>(numbers: &mut N, at: usize, params: Params)
-    requires { (length (N.list numbers.old) ≡ chip_length) × (at ≤ 51) }
+fn put_params<N: NumberList>(numbers: &mut N, at: usize, params: Params)
+    requires { at ≤ 51 }
     ensures { Put (N.list numbers.old) at (param_numbers params) (at + 12) (N.list numbers.new) }
 {
     put(numbers, at, &[params.energy, params.pitch]);
@@ -25,8 +27,7 @@ fn put_params<N: PutNumbers>(numbers: &mut N, at: usize, params: Params)
 }
 
 // All of them.
-pub fn put_chip<N: PutNumbers>(numbers: &mut N, chip: Chip)
-    requires { length (N.list numbers.old) ≡ chip_length }
+pub fn put_chip<N: NumberList>(numbers: &mut N, chip: Chip)
     ensures { N.list numbers.new ≡ numbers_by N.natural chip }
 {
     let sound = chip.sound;
@@ -48,7 +49,9 @@ pub fn numbers_of(chip: Chip) -> Numbers
     ensures value { result ≡ chip_numbers chip }
     ensures comes_back { valid chip ≡ true → chip_of result ≡ chip }
 {
-    let mut numbers = [0i32; LENGTH];
-    put_chip(&mut numbers, chip);
-    numbers
+    let mut held = Held {
+        numbers: [0; LENGTH],
+    };
+    put_chip(&mut held, chip);
+    held.numbers
 }

@@ -1,18 +1,14 @@
 -- Fields' values as numbers of the list, and back.
 -- Assumes nothing.
-use mathlib.Core.Path.{◌≡◌, refl, sym, ap, ◌∙◌}
+use mathlib.Core.Path.{◌≡◌, refl}
 use mathlib.Core.Bool.{Bool, true, false}
-use mathlib.Core.List.{List, [], ◌∷◌, ◌++◌, map}
-use Prim.Native.Nat.{ℕ, zero, suc, ◌+◌, ◌%◌, ◌^◌, ◌≤◌, ◌<◌, min}
+use mathlib.Core.List.{List, [], ◌∷◌, map}
+use Prim.Native.Nat.{ℕ, zero, suc, ◌%◌, ◌^◌, ◌≤◌, ◌<◌, min}
 use native.Mathlib.Omega.{arith}
-use lib.IntN.{ℤ, pos, negsuc, neg_ℤ, nat_abs}
-use lib.ListN.{length, get_or, take, set}
-use lib.Signed.{lt_z}
-use borrow.Author.Tests.{ltb-true}
-use Rattle.std.proofs.lemmas.List.{map_more, take_more_set}
+use lib.IntN.{ℤ, pos, negsuc, neg_ℤ}
+use lib.ListN.{get_or}
 use Rattle.base.specs.Range.{Between, clamped}
-use Rattle.base.proofs.Range.{not_less, is_not_less, ordered}
-use Rattle.base.proofs.Signed.{not_negative}
+use Rattle.base.proofs.Range.{is_not_less}
 use Rattle.chip_numbers.specs.Types.{Mode, Idle, Rom, Waiting, External}
 use Rattle.chip_numbers.specs.Numbers.{flag, mode_number}
 use Rattle.trace_state.specs.Numbers.{wide, natural, short, flag_of, mode_of}
@@ -26,12 +22,6 @@ short_back {z} h = rw (is_not_less z (neg_ℤ (pos 32768)) (omega arith), is_not
 pub shorts_back : (zs : List ℤ) → ((i : ℕ) → Between 32768 32767 (get_or zs i (pos 0))) → map short zs ≡ zs
 shorts_back [] h = refl
 shorts_back (z ∷ zs) h = rw (short_back (h 0), shorts_back zs (λ i. h (suc i)))
-
--- one more of them
-pub shorts_more : (s out : List ℤ) (i : ℕ) (v : ℤ) → i < length s → i < length out → take i out ≡ map short (take i s)
-    → v ≡ short (get_or s i (pos 0)) → take (i + 1) (set out i v) ≡ map short (take (i + 1) s)
-shorts_more s out i v h k e f =
-    take_more_set out i v k ∙ ap (λ r. r ++ v ∷ []) e ∙ ap (λ y. map short (take i s) ++ y ∷ []) f ∙ sym (map_more short s i (pos 0) h)
 
 -- ---- a value in its range comes back
 

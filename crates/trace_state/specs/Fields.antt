@@ -3,6 +3,7 @@ use Rattle.std.specs.Prelude.{cond, List, map, ℕ, ◌+◌, ℤ, pos, take, dro
 use Rattle.base.specs.Units.{samples, intervals}
 use Rattle.chip_numbers.specs.Types.{Device, Tms5220, Tms5220C, AddressRegister, Fifo, Port, Clock, Params, Sound, Chip}
 use Rattle.chip_numbers.specs.Fields.{nth, numbers_by}
+use Rattle.chip_numbers.specs.Reading.{Reading}
 use Rattle.trace_state.specs.Numbers.{wide, natural, short, flag_of, order_of, mode_of}
 
 -- the numbers of a chip
@@ -67,4 +68,14 @@ unfoldable pub chip_of : List ℤ → Chip
 chip_of s = record {
   control = record { mode = mode_of (nth s 0); address = address_of s; fifo = fifo_of s; port = port_of s; clock = clock_of s; device = device_of s };
   sound = sound_of s;
+}
+
+-- numbers read so
+abbrev pub clamping : Reading
+clamping = record {
+  natural = natural;
+  byte = natural 255;
+  level = λ z. pos (natural 32767 z);
+  signed = short;
+  held_level = λ s. natural 255 (nth s 6);
 }

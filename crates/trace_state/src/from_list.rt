@@ -10,5 +10,5 @@ use chip_numbers::reading::read_chip;
 pub fn state_of(numbers: Numbers) -> Chip
     ensures { result ≡ chip_of numbers }
 {
-    read_chip(&List(numbers))
+    read_chip(&List { numbers })
 }

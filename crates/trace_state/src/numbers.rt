@@ -1,11 +1,9 @@
 // A trace's list of a chip's numbers, and what its numbers become as fields' values.
-ghost use Rattle.std.specs.Prelude.{◌≡◌, map, ◌≤◌, pos, take, drop};
+ghost use Rattle.std.specs.Prelude.{◌≡◌, ◌≤◌, length};
+ghost use Rattle.trace_script.specs.Script.{state_length};
 ghost use Rattle.trace_state.specs.Numbers.{wide, natural, short};
-ghost use Rattle.chip_numbers.specs.Fields.{nth};
 
-use chip_numbers::putting::PutNumbers;
-use chip_numbers::reading::ReadNumbers;
-use filter::filter::STAGES;
+use chip_numbers::list::NumberList;
 use trace_script::STATE_LENGTH;
 
 // The numbers of a chip.
@@ -26,59 +24,50 @@ fn short(z: i64) -> i32
     z.clamp(-32768, 32767) as i32
 }
 
+// A trace's list. A number beyond its field's range in the format becomes the nearest end of the range.
 #[derive(Drop)]
-pub(crate) struct List(pub(crate) Numbers);
+pub(crate) struct List {
+    pub(crate) numbers: Numbers,
+    ghost whole: { length numbers ≡ state_length },
+}
 
 // An i64 holds 63 bits of a natural number.
-impl PutNumbers for List {
-    ghost list = { λ list. list.0 };
+impl NumberList for List {
+    ghost use Rattle.trace_state.specs.Fields.{clamping};
+
+    ghost list = { λ list. list.numbers };
 
     ghost natural = { wide };
 
+    ghost reading = { clamping };
+
     fn set_natural(&mut self, i: usize, n: u64) {
-        self.0[i] = (n % 0x8000_0000_0000_0000) as i64;
+        self.numbers[i] = (n % 0x8000_0000_0000_0000) as i64;
     }
 
     fn set_signed(&mut self, i: usize, z: i32) {
-        self.0[i] = i64::from(z);
+        self.numbers[i] = i64::from(z);
     }
-}
-
-// A number beyond its field's range in the format becomes the nearest end of the range.
-impl ReadNumbers for List {
-    ghost list = { λ list. list.0 };
-
-    ghost reading = { record { natural = natural; byte = natural 255; level = λ z. pos (natural 32767 z); held = λ s. map (natural 255) (take 16 (drop 8 s)); held_level = λ s. natural 255 (nth s 6); ten = λ at s. map short (take 10 (drop at s)) } };
 
     fn natural_at(&self, i: usize, most: u32) -> u32 {
-        natural(self.0[i], most)
+        natural(self.numbers[i], most)
     }
 
     fn byte_at(&self, i: usize) -> u8 {
-        natural(self.0[i], 255) as u8
+        natural(self.numbers[i], 255) as u8
     }
 
     fn level_at(&self, i: usize) -> i32 {
-        natural(self.0[i], 32767) as i32
+        natural(self.numbers[i], 32767) as i32
     }
 
-    fn ten_at(&self, at: usize) -> [i32; STAGES] {
-        let mut ten = [0; STAGES];
-        for (i, z) in ten.iter_mut().enumerate() {
-            *z = short(self.0[at + i]);
-        }
-        ten
-    }
-
-    fn held(&self) -> [u8; 16] {
-        let mut bytes = [0; 16];
-        for (i, byte) in bytes.iter_mut().enumerate() {
-            *byte = self.byte_at(8 + i);
-        }
-        bytes
+    fn signed_at(&self, i: usize) -> i32 {
+        short(self.numbers[i])
     }
 
     fn held_level(&self) -> u8 {
         self.byte_at(6)
     }
+
+    ghost whole = { λ list. list.whole };
 }

@@ -11,7 +11,9 @@ use trace_script::STATE_LENGTH;
 pub fn state_numbers(chip: Chip) -> Numbers
     ensures { result ≡ state_numbers chip }
 {
-    let mut list = List([0; STATE_LENGTH]);
+    let mut list = List {
+        numbers: [0; STATE_LENGTH],
+    };
     put_chip(&mut list, chip);
-    list.0
+    list.numbers
 }

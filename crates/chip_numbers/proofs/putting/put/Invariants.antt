@@ -6,4 +6,4 @@ use Rattle.chip_numbers.proofs.putting.put.Given as goal
 
 abbrev pub invariant-loop-i : goal.invariant-loop-i
 invariant-loop-i g l =
-    Put (g.N.PutNumbers.list l.initial.numbers) l.at (map (g.F.Field.number g.N.PutNumbers.natural) (take l.i l.part)) (l.at + l.i) (g.N.PutNumbers.list l.numbers)
+    Put (g.N.NumberList.list l.initial.numbers) l.at (map (g.F.Field.number g.N.NumberList.natural) (take l.i l.part)) (l.at + l.i) (g.N.NumberList.list l.numbers)

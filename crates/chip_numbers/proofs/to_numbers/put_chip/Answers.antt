@@ -9,7 +9,7 @@ pub returns : goal.returns
 returns g c =
     let sixteen : length c.args.chip.control.fifo.bytes ≡ 16 = search (rules, c.well_formed) in
     let ten : length c.args.chip.sound.memory ≡ 10 = search (rules, c.well_formed) in
-    put_chip g.N.PutNumbers.natural c.args.chip
+    put_chip g.N.NumberList.natural c.args.chip
     (rw c.control_numbers.ensures at c.put.ensures)
     (rw sixteen at c.put-2.ensures)
     (rw c.clock_numbers.ensures at c.put-3.ensures)

@@ -1,4 +1,3 @@
-use mathlib.Core.Path.{◌≡◌, ap, ◌∙◌}
 use Rattle.trace_state.specs.Fields.{chip_of}
 use Rattle.trace_state.proofs.Signed.{mode_is}
 use Rattle.trace_state.proofs.from_list.state_of.Goals as goal
