@@ -58,11 +58,10 @@ fn list(rt: &HostRuntime, asked: Asked) -> io::Result<()>
 {
     let mut image = room();
     let end = asked.most + 1;
-    let input = read_all(&mut rt.stdin(), &mut image[..end]);
-    if let Some(error) = input.failed {
-        return eprintln!(rt; "standard input: {error}");
-    }
-    let n = input.count;
+    let n = match read_all(&mut rt.stdin(), &mut image[..end]) {
+        Ok(n) => n,
+        Err(error) => return eprintln!(rt; "standard input: {error}"),
+    };
     match write_listing(rt, &image[..n], asked) {
         Err(error) if error.kind() != ErrorKind::BrokenPipe => {
             eprintln!(rt; "standard output: {error}")

@@ -12,7 +12,7 @@ use std::io;
 use std::io::{ErrorKind, Write};
 use stdin::read_all;
 use trace_lines::lines::bad_line;
-use trace_script::{LIMIT, Record, record_at};
+use trace_script::{LIMIT, record_at};
 
 // The buffer for answers has 65,536 bytes and is written out where more than this is used. The answers to one record take less
 // than 59,000 bytes, so that none is cut: at most 8,192 samples of 7 bytes, 69 numbers of 21 bytes, and some 20 bytes more.
@@ -52,8 +52,7 @@ fn play_all(rt: &HostRuntime, script: &[u8], out: &mut [u8]) -> io::Result<()>
     let mut at = 0;
     let mut used = 0;
     while at < script.len() {
-        let record = record_at(script, at);
-        let Record::Whole(next) = record else {
+        let Some(next) = record_at(script, at) else {
             return give_up(rt, out, used);
         };
         parts = parts.after(script, at);
@@ -83,11 +82,10 @@ fn room() -> [u8; 1048577]
 // What cannot be read or written is said on standard error; nothing is said where the reader has seen enough.
 fn main(rt: HostRuntime) -> io::Result<()> {
     let mut space = room();
-    let input = read_all(&mut rt.stdin(), &mut space);
-    if let Some(error) = input.failed {
-        return eprintln!(rt; "standard input: {error}");
-    }
-    let n = input.count;
+    let n = match read_all(&mut rt.stdin(), &mut space) {
+        Ok(n) => n,
+        Err(error) => return eprintln!(rt; "standard input: {error}"),
+    };
     let mut out = [0u8; 65536];
     match play_script(&rt, &space[..n], &mut out) {
         Err(error) if error.kind() != ErrorKind::BrokenPipe => {
