@@ -1,15 +1,10 @@
 -- Reading an address, one character after another.
 -- Assumes nothing.
-use mathlib.Core.Path.{◌≡◌, refl, sym}
-use mathlib.Core.Bool.{false, ◌&&◌, and-true, and-false}
-use mathlib.Core.List.{List, [], ◌∷◌}
-use Prim.Native.Nat.{ℕ, suc, ◌+◌, ◌*◌, ◌-◌, ◌≤◌, ◌<◌}
-use native.Mathlib.Numerals.{add-one}
-use native.Mathlib.Omega.{arith}
-use borrow.Author.Tests.{lt-ltb, le-ltb, le-leb, lt-leb, ltb-true, ltb-false}
+use Rattle.std.proofs.Common.{◌≡◌, ℕ, suc, ◌+◌, ◌*◌, ◌-◌, ◌≤◌, ◌<◌, min, true, false, List, [], ◌∷◌, ◌&&◌, length, drop, get_or, refl, sym, add-one, arith}
+use mathlib.Core.Bool.{and-true, and-false}
+use borrow.Author.Tests.{lt-ltb, le-ltb, ltb-true, ltb-false}
 use lib.Dec.{ltb}
-use lib.ListN.{length, drop, get_or}
-use lib.Seq.{drop-cons, drop-length}
+use Rattle.std.proofs.Math.Seq.{drop-cons, drop-length}
 use Rattle.base.proofs.Booleans.{both_true, either_way, by_test}
 use Rattle.rom.specs.Bits.{image_limit}
 use Rattle.lister.specs.Address.{is_digit, all_digits, number_after, address_after, address_of}
@@ -39,24 +34,17 @@ address_end n h =
 
 module _ (n c : ℕ) where
   -- one more character, which is no digit
-  no_digit : is_digit c ≡ false → image_limit ≡ address_after n (c ∷ [])
+  pub address_no_digit : is_digit c ≡ false → image_limit ≡ address_after n (c ∷ [])
   unfolding address_after all_digits
-  no_digit h = rw (h, and-false)
-
-  pub address_low : c < 48 → image_limit ≡ address_after n (c ∷ [])
-  address_low h = no_digit (rw (lt-leb 48 c h))
-
-  pub address_high : 57 < c → image_limit ≡ address_after n (c ∷ [])
-  address_high h = no_digit (rw (le-leb 48 c (omega arith), lt-leb c 57 h))
+  address_no_digit h = rw (h, and-false)
 
   -- one more digit
-  pub address_digit : 48 ≤ c → c ≤ 57 → 10 * n + (c - 48) < image_limit → 10 * n + (c - 48) ≡ address_after n (c ∷ [])
+  pub address_digit : is_digit c ≡ true → min (10 * n + (c - 48)) image_limit ≡ address_after n (c ∷ [])
   unfolding address_after all_digits number_after
-  address_digit h g l = rw (le-leb 48 c h, le-leb c 57 g, lt-ltb (10 * n + (c - 48)) image_limit l)
-
-  pub address_far : image_limit ≤ 10 * n + (c - 48) → image_limit ≡ address_after n (c ∷ [])
-  unfolding address_after number_after
-  address_far l = rw (le-ltb (10 * n + (c - 48)) image_limit l)
+  address_digit h =
+      let m = 10 * n + (c - 48) in
+      rw (h, and-true)
+      (by_test (λ v. min m image_limit ≡ v) (ltb m image_limit) (λ e. omega (arith, ltb-true m image_limit e)) (λ e. omega (arith, ltb-false m image_limit e)))
 
 -- the first character is read, then the others
 pub address_more : (n c : ℕ) (cs : List ℕ) → address_after n (c ∷ cs) ≡ address_after (address_after n (c ∷ [])) cs

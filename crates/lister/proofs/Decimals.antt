@@ -1,6 +1,6 @@
 -- Laws of decimal digits.
 -- Assumes nothing.
-use mathlib.Core.Path.{◌≡◌}
+use mathlib.Core.Path.{◌≡◌, ap}
 use mathlib.Core.List.{[], ◌∷◌, ◌++◌}
 use Prim.Native.Nat.{ℕ, zero, suc, ◌+◌, ◌/◌, ◌%◌, ◌^◌, ◌≤◌, ◌<◌}
 use native.Mathlib.Nat.{pow-suc}
@@ -8,6 +8,8 @@ use native.Mathlib.Omega.{arith}
 use borrow.Author.Tests.{lt-ltb, le-ltb, ltb-false}
 use lib.Dec.{ltb}
 use lib.ListN.{length, length-append}
+use Rattle.std.specs.Fmt.{decimal as printed}
+use Rattle.std.proofs.lemmas.Fmt.{decimal_by_steps}
 use Rattle.base.proofs.Booleans.{either_way}
 use Rattle.lister.specs.Text.{digits_of, decimal}
 
@@ -40,3 +42,8 @@ digits_length (suc k) (suc j) n h =
 pub decimal_length : (j n : ℕ) → n < 10 ^ suc j → length (decimal n) ≤ suc j
 unfolding decimal
 decimal_length j n h = digits_length (suc n) j n h
+
+-- the library's digits are the same
+pub decimal_printed : (n : ℕ) → n < 2 ^ 64 → decimal n ≡ printed n
+decimal_printed =
+    decimal_by_steps (λ n ds. decimal n ≡ ds) (λ n h. rw (decimal_one n h) (ap (λ c. c ∷ []) (omega arith))) (λ n ds h e. rw (decimal_more n h, e))

@@ -8,11 +8,10 @@ use lib.Dec.{leb}
 use lib.ListN.{length}
 use Rattle.rom.specs.Bits.{image_valid}
 use Rattle.rom.specs.Frames.{pitch_width, bit_count}
-use Rattle.rom.specs.Reader.{frame_at, taken_of, frame_taken_of}
+use Rattle.rom.specs.Reader.{FrameAnswer, frame_at, taken_of, frame_taken_of}
 use Rattle.rom.specs.declared.frames.Frame.{Frame}
 use Rattle.rom.specs.declared.frames.Frame.TheVariants.{Silence, Stop, Repeat, Unvoiced, Voiced}
-use Rattle.rom.specs.declared.reader.FrameAnswer.{FrameAnswer}
-use Rattle.rom.specs.declared.reader.FrameAnswer.TheVariants.{Whole, Cut}
+use Rattle.std.specs.Prelude.{Ok, Err}
 use Rattle.rom.proofs.Checks.{valid_length}
 use Rattle.base.proofs.Booleans.{either_way}
 
@@ -24,8 +23,8 @@ bits_most (Unvoiced e k1 k2 k3 k4) = omega arith
 bits_most (Voiced e p k1 k2 k3 k4 k5 k6 k7 k8 k9 k10) = omega arith
 
 taken_most : (t : FrameAnswer) → (taken_of pitch_width t).bits ≤ 50
-taken_most (Whole f next) = bits_most f
-taken_most (Cut h) = omega arith
+taken_most (Ok (f, next)) = bits_most f
+taken_most (Err h) = omega arith
 
 pub next_fits : (s : List ℕ) (at : ℕ) → at < 2 ^ 64 → at + (frame_taken_of pitch_width s at).bits < 2 ^ 64
 unfolding frame_taken_of

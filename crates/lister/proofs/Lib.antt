@@ -1,8 +1,8 @@
 pub mod Texts
 pub mod Decimals
 pub mod LineLaws
+pub mod FrameLines
 pub mod FrameBits
-pub mod Copies
 pub mod PhraseLines
 pub mod ListingLaws
 pub mod Filling

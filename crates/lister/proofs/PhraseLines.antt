@@ -13,7 +13,7 @@ use Rattle.rom.specs.Reader.{frame_at, taken_of, frame_taken_of}
 use Rattle.rom.specs.Items.{bits_all, AllProper, phrase}
 use Rattle.rom.specs.Phrases.{frame_code, PhraseAt, frames_at}
 use Rattle.rom.specs.declared.frames.Frame.{Frame}
-use Rattle.rom.specs.declared.reader.FrameAnswer.TheVariants.{Whole}
+use Rattle.std.specs.Prelude.{Ok}
 use Rattle.rom.proofs.CentralLaw.{central_law}
 use Rattle.rom.proofs.Encoding.{begins_room, begins_split, length_encoded}
 use Rattle.rom.proofs.FrameCode.{four_bits}
@@ -22,8 +22,8 @@ use Rattle.lister.specs.Listing.{lines_of, line_at, after, lines_from}
 
 module _ (s : List ℕ) (v : image_valid s ≡ true) where
   -- a whole frame is taken
-  taken_whole : (at : ℕ) (f : Frame) (next : ℕ) → at < 8 * length s → frame_at pitch_width s at ≡ Whole f next
-      → frame_taken_of pitch_width s at ≡ taken_of pitch_width (Whole f next)
+  taken_whole : (at : ℕ) (f : Frame) (next : ℕ) → at < 8 * length s → frame_at pitch_width s at ≡ Ok (f, next)
+      → frame_taken_of pitch_width s at ≡ taken_of pitch_width (Ok (f, next))
   unfolding frame_taken_of
   taken_whole at f next h e = rw (v, lt-leb (8 * length s) at h, e)
 

@@ -1,12 +1,8 @@
 -- Laws of what a text holds.
 -- Assumes nothing.
-use mathlib.Core.Path.{◌≡◌, refl, ap, sym, ◌∙◌}
-use mathlib.Core.List.{List, [], ◌∷◌, ◌++◌, append_assoc, append-nil}
-use Prim.Native.Nat.{ℕ, zero, suc, ◌+◌, ◌≤◌, ◌<◌}
-use native.Mathlib.Numerals.{add-one}
-use native.Mathlib.Omega.{arith}
-use lib.ListN.{length, take, set, length-append, length-take}
-use lib.Seq.{take_all, take-append-le, take-suc-set}
+use Rattle.std.proofs.Common.{◌≡◌, ℕ, zero, suc, ◌+◌, ◌≤◌, min, List, [], ◌∷◌, ◌++◌, length, take, refl, ap, sym, ◌∙◌, append_assoc, append-nil, arith}
+use Rattle.std.proofs.lemmas.List.{take_min}
+use Rattle.std.proofs.Math.Seq.{take_all, take-append-add}
 use Rattle.lister.specs.Text.{contents, appended}
 use Rattle.lister.specs.declared.text.Text.{Text}
 
@@ -21,24 +17,18 @@ pub appended_twice : (t r : Text) (a b : List ℕ) → contents r ≡ appended t
 unfolding appended
 appended_twice t r a b e = rw (e, take_append, append_assoc)
 
--- nothing was appended
-pub nothing_appended : (t : Text) → length t.bytes ≡ 80 → contents t ≡ appended t []
-unfolding contents appended
-nothing_appended t e = rw append-nil (sym (take_all 80 (take t.length t.bytes) (simp length-take (omega arith))))
+module _ (t : Text) (fits : length (contents t) ≤ 80) where
+  -- nothing was appended
+  pub nothing_appended : contents t ≡ appended t []
+  unfolding appended
+  nothing_appended = rw append-nil (sym (take_all 80 (contents t) fits))
 
-module _ (t : Text) (e : length t.bytes ≡ 80) where
-  -- a byte that there is room for
-  pub byte_appended : (b : ℕ) → t.length < 80 → take (t.length + 1) (set t.bytes t.length b) ≡ appended t (b ∷ [])
-  unfolding contents appended
-  byte_appended b h =
-      rw (add-one, take-suc-set t.bytes t.length b (omega arith))
-      (sym (take_all 80 (take t.length t.bytes ++ (b ∷ [])) (simp (length-append, length-take) (omega arith))))
-
-  -- a byte that there is no room for
-  pub byte_dropped : (s : List ℕ) → 80 ≤ t.length → contents t ≡ appended t s
-  unfolding contents appended
-  byte_dropped s h =
-      rw (take_all t.length t.bytes (omega arith), take-append-le 80 t.bytes s (omega arith), take_all 80 t.bytes (omega arith))
+  -- as much of a word as there is room for
+  pub word_appended : (word : List ℕ) (room : ℕ) → room + length (contents t) ≡ 80 → contents t ++ take (min room (length word)) word ≡ appended t word
+  unfolding appended
+  word_appended word room e =
+      let r : 80 ≡ length (contents t) + room = omega arith in
+      rw (r, take-append-add, take_min)
 
 -- the text t has come to hold s, or as much of s as it has room for
 pub record Holds (t : Text) (s : List ℕ) : Type 0 where

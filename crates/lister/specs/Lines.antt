@@ -1,7 +1,7 @@
 -- The lines that the lister prints (01, "Numbers to try", the lister), as ASCII codes.
 use Rattle.std.specs.Prelude.{cond, List, [], ◌∷◌, ◌++◌, ℕ, eqb, leb, take, drop, get_or}
 use Rattle.base.specs.Refusals.{NO_PHRASE}
-use Rattle.rom.specs.declared.phrases.Walked.{Walked}
+use Rattle.rom.specs.Phrases.{Walked}
 use Rattle.lister.specs.Text.{codes, decimal}
 
 -- the word for a kind's number: 1 silence, 2 stop, 3 repeat, 4 unvoiced, 5 voiced; no frame, which no listing has, is `none`

@@ -1,12 +1,11 @@
 -- All that the lister prints for an image: without an argument as 01 has it ("Numbers to try", the lister), and with a byte
 -- address as its argument.
-use Rattle.std.specs.Prelude.{cond, List, [], ◌∷◌, ◌++◌, ◌≡◌, ℕ, zero, suc, ◌+◌, ◌*◌, ◌-◌, ◌≤◌, eqb, ltb, length, take}
+use Rattle.std.specs.Prelude.{cond, List, [], ◌∷◌, ◌++◌, ◌≡◌, ℕ, zero, suc, ◌+◌, ◌*◌, ◌-◌, ◌≤◌, eqb, ltb, length, take, Some}
 use Rattle.base.specs.Refusals.{TAKEN, IMAGE}
 use Rattle.rom.specs.Frames.{pitch_width, bit_count, numbers_of}
 use Rattle.rom.specs.Phrases.{frames_at, walk_of, phrase_of}
 use Rattle.rom.specs.Reader.{frame_taken_of}
 use Rattle.rom.specs.declared.frames.Frame.{Frame}
-use Rattle.rom.specs.declared.frames.MaybeFrame.TheVariants.{Some}
 use Rattle.lister.specs.declared.asked.Asked.{Asked}
 use Rattle.lister.specs.declared.listing.Filled.{Filled}
 use Rattle.lister.specs.Lines.{frame_line, phrase_line, refused_line, walk_line}
@@ -54,5 +53,5 @@ lines_from s bit (suc n) = line_at s bit ++ lines_from s (after s bit) n
 -- buffer, then the lines that are left, is all of them. A buffer with room for a line gets at least one.
 pub record Fills (s : List ℕ) (bit lines : ℕ) (out : List ℕ) (r : Filled) : Type 0 where
   pub within : r.used ≤ length out
-  pub some : 80 ≤ length out → r.left ≤ lines - 1
-  pub listed : take r.used out ++ lines_from s r.bit r.left ≡ lines_from s bit lines
+  pub some : 80 ≤ length out → r.left.count ≤ lines - 1
+  pub listed : take r.used out ++ lines_from s r.left.bit r.left.count ≡ lines_from s bit lines

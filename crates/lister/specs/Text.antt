@@ -6,7 +6,7 @@ use Rattle.lister.specs.declared.text.Text.{Text}
 
 -- the bytes that a text holds
 unfoldable pub contents : Text → List ℕ
-contents t = take t.length t.bytes
+contents t = t.bytes.items
 
 -- a text, then the bytes s; a text holds 80 bytes, and the rest is dropped
 unfoldable pub appended : Text → List ℕ → List ℕ

@@ -1,40 +1,45 @@
-// The kinds of lines of a listing. Kinds are the numbers that rom::frames::numbers gives: 1 silence, 2 stop, 3 repeat,
-// 4 unvoiced, 5 voiced.
-ghost use Rattle.std.specs.Prelude.{◌≡◌, ◌≤◌, take, drop};
+// The kinds of lines of a listing.
+ghost use Rattle.std.specs.Prelude.{◌≡◌, ◌*◌, ◌≤◌, Err, length};
+ghost use Rattle.base.specs.Answers.{number_of};
+ghost use Rattle.rom.specs.Frames.{numbers_of};
+ghost use Rattle.rom.specs.Phrases.{walk_answer};
 ghost use Rattle.lister.specs.Text.{contents, appended};
-ghost use Rattle.lister.specs.Lines.{kind_word, pitch_text, k_count, indexes, frame_line, phrase_line, refused_line, cut_line, walk_line};
+ghost use Rattle.lister.specs.Lines.{indexes, frame_line, phrase_line, refused_line, cut_line, walk_line};
 
-use crate::text::{Text, empty, with_byte, with_number, with_word};
-use base::refusal::NO_PHRASE;
-use rom::phrases::Walked;
+use crate::text::Text;
+use base::refusal::Refusal;
+use rom::frames::Frame;
 
 // `refused` and the number.
-pub fn refused_line(refusal: u8) -> Text
-    ensures { contents result ≡ refused_line refusal }
+pub fn refused_line(refusal: Refusal) -> Text
+    ensures { contents result ≡ refused_line (number_of refusal) }
 {
-    let t = with_word(empty(), b"refused ");
-    with_byte(with_number(t, refusal as u64), b'\n')
+    Text::empty()
+        .with_word(b"refused ")
+        .with_number(u64::from(refusal.number()))
+        .with_byte(b'\n')
 }
 
 // `refused 10`, the bit at which the cut frame begins and the bits that it lacks.
 fn cut_line(begun: usize, missing: usize) -> Text
     ensures { contents result ≡ cut_line begun missing }
 {
-    let t = with_word(empty(), b"refused 10 ");
-    let t = with_byte(with_number(t, begun as u64), b' ');
-    with_byte(with_number(t, missing as u64), b'\n')
+    Text::empty()
+        .with_word(b"refused 10 ")
+        .with_number(begun as u64)
+        .with_byte(b' ')
+        .with_number(missing as u64)
+        .with_byte(b'\n')
 }
 
 // The line of a refused walk.
-pub fn walk_line(walked: Walked) -> Text
-    ensures { contents result ≡ walk_line walked }
+#[tactic(auto, using(crate::proofs::LineLaws::walk_line_refused), unfolding(crate::specs::Lines::walk_line))]
+pub fn walk_line(refusal: Refusal) -> Text
+    ensures { contents result ≡ walk_line (walk_answer (Err refusal)) }
 {
-    let refusal = walked.refusal;
-    if refusal == NO_PHRASE {
-        let short = walked.short;
-        cut_line(short.begun, short.missing)
-    } else {
-        refused_line(refusal)
+    match refusal {
+        Refusal::NoPhrase(short) => cut_line(short.begun, short.missing),
+        _ => refused_line(refusal),
     }
 }
 
@@ -42,68 +47,68 @@ pub fn walk_line(walked: Walked) -> Text
 pub fn phrase_line(frames: u32, bits: usize, bytes: usize) -> Text
     ensures { contents result ≡ phrase_line frames bits bytes }
 {
-    let t = with_word(empty(), b"phrase ");
-    let t = with_word(with_number(t, frames as u64), b" frames ");
-    let t = with_word(with_number(t, bits as u64), b" bits ");
-    with_word(with_number(t, bytes as u64), b" bytes\n")
+    Text::empty()
+        .with_word(b"phrase ")
+        .with_number(u64::from(frames))
+        .with_word(b" frames ")
+        .with_number(bits as u64)
+        .with_word(b" bits ")
+        .with_number(bytes as u64)
+        .with_word(b" bytes\n")
 }
 
-// The text, then the word for a kind.
-fn with_kind(t: Text, kind: u8) -> Text
-    ensures { contents result ≡ appended t (kind_word kind) }
-{
-    match kind {
-        1 => with_word(t, b"silence"),
-        2 => with_word(t, b"stop"),
-        3 => with_word(t, b"repeat"),
-        4 => with_word(t, b"unvoiced"),
-        5 => with_word(t, b"voiced"),
-        _ => with_word(t, b"none"),
-    }
-}
-
-// The text, then the pitch index, or `-` for a kind without one.
-fn with_pitch(t: Text, kind: u8, pitch: u8) -> Text
-    ensures { contents result ≡ appended t (pitch_text kind pitch) }
-{
-    if kind <= 2 {
-        with_byte(t, b'-')
-    } else {
-        with_number(t, pitch as u64)
-    }
-}
-
-// How many K indexes a line shows.
-fn k_count(kind: u8) -> usize
-    ensures { result ≡ k_count kind }
-{
-    match kind {
-        4 => 4,
-        5 => 10,
-        _ => 0,
-    }
-}
-
-// The text, then the first `count` K indexes, a space before each.
-fn with_indexes(t: Text, numbers: [u8; 13], count: usize) -> Text
-    requires { count ≤ 10 }
-    ensures { contents result ≡ appended t (indexes (take count (drop 3 numbers))) }
+// The text, then indexes, a space before each.
+fn with_indexes(t: Text, list: &[u8]) -> Text
+    ensures value { contents result ≡ appended t (indexes list.now) }
+    ensures short { length (indexes list.now) ≤ 4 * length list.now }
 {
     let mut r = t;
-    for i in 0..count {
-        r = with_number(with_byte(r, b' '), numbers[3 + i] as u64);
+    for &index in list {
+        r = r.with_byte(b' ').with_number(u64::from(index));
     }
     r
 }
 
-// The line of a frame: its first bit and its numbers, as rom::frames::numbers gives them.
-pub fn frame_line(first: usize, numbers: [u8; 13]) -> Text
-    ensures { contents result ≡ frame_line first numbers }
+// The line of a frame: its first bit, its kind and its indexes, `-` for a kind without a pitch. No listing has a line of no frame.
+pub fn frame_line(first: usize, frame: Option<Frame>) -> Text
+    ensures { contents result ≡ frame_line first (numbers_of frame) }
 {
-    let kind = numbers[0];
-    let t = with_byte(with_number(empty(), first as u64), b' ');
-    let t = with_byte(with_kind(t, kind), b' ');
-    let t = with_byte(with_number(t, numbers[1] as u64), b' ');
-    let t = with_pitch(t, kind, numbers[2]);
-    with_byte(with_indexes(t, numbers, k_count(kind)), b'\n')
+    let t = Text::empty().with_number(first as u64).with_byte(b' ');
+    let t = match frame {
+        None => t.with_word(b"none 0 -"),
+        Some(Frame::Silence) => t.with_word(b"silence 0 -"),
+        Some(Frame::Stop) => t.with_word(b"stop 15 -"),
+        Some(Frame::Repeat { energy, pitch }) => {
+            with_indexes(t.with_word(b"repeat"), &[energy, pitch])
+        }
+        Some(
+            Frame::Unvoiced {
+                energy,
+                k1,
+                k2,
+                k3,
+                k4,
+            },
+        ) => with_indexes(t.with_word(b"unvoiced"), &[energy, 0, k1, k2, k3, k4]),
+        Some(
+            Frame::Voiced {
+                energy,
+                pitch,
+                k1,
+                k2,
+                k3,
+                k4,
+                k5,
+                k6,
+                k7,
+                k8,
+                k9,
+                k10,
+            },
+        ) => with_indexes(
+            t.with_word(b"voiced"),
+            &[energy, pitch, k1, k2, k3, k4, k5, k6, k7, k8, k9, k10],
+        ),
+    };
+    t.with_byte(b'\n')
 }

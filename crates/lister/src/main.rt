@@ -11,24 +11,20 @@ mod lines;
 mod listing;
 mod text;
 
-use asked::{Asked, at_argument, at_start};
-use listing::{fill, first_line};
+use asked::Asked;
+use listing::{FrameLines, fill, first_line};
 use std::env::{Env, FillError};
 use std::io;
 use std::io::{ErrorKind, Write};
 use stdin::read_all;
-use text::size;
 
-// Writes the frame lines from a bit on.
-fn write_lines(rt: &HostRuntime, image: &[u8], first: usize, lines: u32) -> io::Result<()> {
+// Writes frame lines.
+fn write_lines(rt: &HostRuntime, image: &[u8], lines: FrameLines) -> io::Result<()> {
     let mut out = [0u8; 65536];
-    let mut bit = first;
     let mut left = lines;
-    while left > 0 {
-        let filled = fill(image, bit, left, &mut out);
-        let used = filled.used;
-        rt.stdout().write_all(&out[..used])?;
-        bit = filled.bit;
+    while left.count > 0 {
+        let filled = fill(image, left, &mut out);
+        rt.stdout().write_all(&out[..filled.used])?;
         left = filled.left;
     }
     Ok(())
@@ -37,14 +33,12 @@ fn write_lines(rt: &HostRuntime, image: &[u8], first: usize, lines: u32) -> io::
 // Writes the listing.
 fn write_listing(rt: &HostRuntime, image: &[u8], asked: Asked) -> io::Result<()> {
     let first = first_line(image, asked);
-    let text = first.text;
-    let n = size(text);
-    let bytes = text.bytes;
-    rt.stdout().write_all(&bytes[..n])?;
-    write_lines(rt, image, first.bit, first.lines)
+    rt.stdout().write_all(first.text.as_slice())?;
+    write_lines(rt, image, first.lines)
 }
 
-// Room for one byte more than an image may have, so that a longer input is noticed.
+// Room for one byte more than an image may have, so that a longer input is noticed. Written in place, an array of so many elements leaves
+// the proof of its slice open.
 fn room() -> [u8; 262145]
     ensures { 262145 ≡ length result }
 {
@@ -57,8 +51,7 @@ fn list(rt: &HostRuntime, asked: Asked) -> io::Result<()>
     requires { asked.most ≤ image_limit }
 {
     let mut image = room();
-    let end = asked.most + 1;
-    let n = match read_all(&mut rt.stdin(), &mut image[..end]) {
+    let n = match read_all(&mut rt.stdin(), &mut image[..asked.most + 1]) {
         Ok(n) => n,
         Err(error) => return eprintln!(rt; "standard input: {error}"),
     };
@@ -76,9 +69,9 @@ fn argument(rt: &HostRuntime) -> Asked
 {
     let mut text = [0u8; 4096];
     match rt.arg(1, &mut text) {
-        Ok(n) => at_argument(&text[..n]),
-        Err(FillError::TooLong) => at_argument(b""),
-        Err(FillError::NotPresent) => at_start(),
+        Ok(n) => Asked::at_argument(&text[..n]),
+        Err(FillError::TooLong) => Asked::at_argument(b""),
+        Err(FillError::NotPresent) => Asked::at_start(),
     }
 }
 

@@ -1,71 +1,63 @@
 // A text of at most 80 bytes by value, in ASCII. What does not fit is dropped, so that no function here asks for room; the
 // longest line, the phrase's with numbers of 10, 20 and 20 digits, has 78.
-ghost use Rattle.std.specs.Prelude.{◌≡◌, [], ◌∷◌, length};
-ghost use Rattle.lister.specs.Text.{contents, decimal, appended};
+ghost use Rattle.std.specs.Prelude.{◌≡◌, ◌≤◌, [], ◌∷◌, length};
+
+use arrayvec::ArrayVec;
+use itoa::Buffer;
 
 // The most bytes of a text.
 pub const TEXT_SIZE: usize = 80;
 
-#[derive(Clone, Copy)]
+#[derive(Drop)]
 pub struct Text {
-    pub bytes: [u8; 80],
-    pub length: usize,
+    bytes: ArrayVec<u8, TEXT_SIZE>,
+    ghost fits: { length bytes.items ≤ 80 },
 }
 
-// The text without a byte.
-pub fn empty() -> Text
-    ensures { contents result ≡ [] }
-{
-    Text {
-        bytes: [0; 80],
-        length: 0,
-    }
-}
+impl Text {
+    ghost use Rattle.lister.specs.Text.{contents, decimal, appended};
 
-// How many bytes a text has.
-pub fn size(t: Text) -> usize
-    ensures { result ≡ length (contents t) }
-{
-    let n = t.length;
-    if n < TEXT_SIZE { n } else { TEXT_SIZE }
-}
-
-// The text, then a byte.
-pub fn with_byte(t: Text, b: u8) -> Text
-    ensures { contents result ≡ appended t (b ∷ []) }
-{
-    let n = t.length;
-    if n < TEXT_SIZE {
-        let mut bytes = t.bytes;
-        bytes[n] = b;
+    // The text without a byte.
+    #[tactic(auto, unfolding(crate::specs::Text::contents))]
+    pub fn empty() -> Text
+        ensures { contents result ≡ [] }
+    {
         Text {
-            bytes,
-            length: n + 1,
+            bytes: ArrayVec::new(),
         }
-    } else {
-        t
     }
-}
 
-// The text, then a word.
-pub fn with_word(t: Text, word: &[u8]) -> Text
-    ensures { contents result ≡ appended t word.now }
-{
-    let mut r = t;
-    for i in 0..word.len() {
-        r = with_byte(r, word[i]);
+    #[tactic(auto, unfolding(crate::specs::Text::contents))]
+    pub fn as_slice(&self) -> &[u8]
+        ensures value { result.now ≡ contents self.now }
+        ensures fits { length result.now ≤ 80 }
+    {
+        self.bytes.as_slice()
     }
-    r
-}
 
-// The text, then the decimal digits of a number.
-pub fn with_number(t: Text, n: u64) -> Text
-    ensures { contents result ≡ appended t (decimal n) }
-{
-    let digit = 48 + (n % 10) as u8;
-    if n < 10 {
-        with_byte(t, digit)
-    } else {
-        with_byte(with_number(t, n / 10), digit)
+    // The text, then a byte.
+    pub fn with_byte(self, b: u8) -> Text
+        ensures { contents result ≡ appended self (b ∷ []) }
+    {
+        self.with_word(&[b])
+    }
+
+    // The text, then a word.
+    pub fn with_word(mut self, word: &[u8]) -> Text
+        ensures { contents result ≡ appended self word.now }
+    {
+        let room = self.bytes.remaining_capacity();
+        let _ = self
+            .bytes
+            .try_extend_from_slice(&word[..room.min(word.len())]);
+        self
+    }
+
+    // The text, then the decimal digits of a number.
+    #[tactic(auto, using(crate::proofs::Decimals::decimal_printed))]
+    pub fn with_number(self, n: u64) -> Text
+        ensures { contents result ≡ appended self (decimal n) }
+    {
+        self.with_word(Buffer::new().format(n).as_bytes())
     }
 }

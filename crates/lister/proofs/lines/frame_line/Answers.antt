@@ -1,28 +1,37 @@
-use borrow.Author.Rules.{rules}
-use Prim.Native.Nat.{ℕ}
-use mir.Val.{Fits}
-use mir.Syntax.{w8}
-use lib.ListN.{get_or}
+-- Its text, by its kind.
+use Rattle.std.proofs.Common.{◌≡◌, ◌≤◌, ◌++◌, length, Option, Some, None, ◌∙◌, arith}
+use Rattle.rom.specs.Frames.{numbers_of}
+use Rattle.rom.specs.declared.frames.Frame.{Frame}
+use Rattle.rom.specs.declared.frames.Frame.TheVariants.{Silence, Stop, Repeat, Unvoiced, Voiced}
+use Rattle.lister.specs.Text.{codes, decimal, contents, appended}
 use Rattle.lister.specs.Lines.{frame_line}
-use Rattle.lister.proofs.Texts.{holds_nothing, holds_more, holds_all}
-use Rattle.lister.proofs.LineLaws.{frame_length, k_count_most}
+use Rattle.lister.proofs.Texts.{Holds, holds_nothing, holds_more, appended_twice}
+use Rattle.lister.proofs.FrameLines.{frame_text, frame_line_held, found}
+use Rattle.lister.proofs.lines.frame_line.Goals.{in-None, in-Some-Silence, in-Some-Stop, in-Some-Repeat, in-Some-Unvoiced, in-Some-Voiced}
 use Rattle.lister.proofs.lines.frame_line.Goals as goal
 
-pub with_indexes-requires : goal.with_indexes-requires
-with_indexes-requires c =
-    rw c.k_count.ensures (k_count_most _)
-
 pub returns : goal.returns
-unfolding frame_line
 returns c =
-    let f : (i : ℕ) → Fits w8 (get_or c.args.numbers i 0) = λ i. search rules in
-    let t = holds_nothing c.empty.ensures in
-    let t = holds_more _ t c.with_number.ensures in
-    let t = holds_more _ t c.with_byte-t.ensures in
-    let t = holds_more _ t c.with_kind.ensures in
-    let t = holds_more _ t c.with_byte-t-2.ensures in
-    let t = holds_more _ t c.with_number-2.ensures in
-    let t = holds_more _ t c.with_byte-t-3.ensures in
-    let t = holds_more _ t c.with_pitch-t.ensures in
-    let t = holds_more _ t (rw c.k_count.ensures at c.with_indexes.ensures) in
-    holds_all (holds_more _ t c.with_byte.ensures) (frame_length _ c.args.numbers (search rules) (λ i. (f i).fits))
+    let begun : Holds c.with_byte-t.result (decimal c.args.first ++ codes " ") =
+    holds_more _ (holds_more _ (holds_nothing c.empty.ensures) c.with_number.ensures) c.with_byte-t.ensures in
+    let line = λ (f : Option Frame) (e : c.args.frame ≡ f) (t : contents c.match-frame.t ≡ appended c.with_byte-t.result (frame_text f)) (l : length (frame_text f) ≤ 58).
+    let is : contents c.with_byte.result ≡ frame_line c.args.first (numbers_of c.args.frame) =
+    rw e (frame_line_held f c.with_byte.result c.ranges.first.fits (holds_more _ begun t) l c.with_byte.ensures) in
+    is in
+    elim c.match-frame.branch [
+      | in-None w ↦ line None w.in-None.is (rw w.t-is w.with_word-t.ensures) (omega arith)
+      | in-Some-Silence w ↦ line (Some Silence) (found w.in-Some-Silence.is (rw w.in-Some-Silence.is at w.in-Some-Silence.field-0-is)) (rw w.t-is w.with_word-t-in-Some-Silence.ensures) (omega arith)
+      | in-Some-Stop w ↦ line (Some Stop) (found w.in-Some-Stop.is (rw w.in-Some-Stop.is at w.in-Some-Stop.field-0-is)) (rw w.t-is w.with_word-t-in-Some-Stop.ensures) (omega arith)
+      | in-Some-Repeat w ↦
+          let i = w.in-Some-Repeat in
+          let k = w.with_indexes-t.ensures in
+          line (Some (Repeat i.energy i.pitch)) (found i.is (rw i.is at i.field-0-is)) (rw w.t-is (k.value ∙ appended_twice _ _ _ _ w.with_word.ensures)) (omega (arith, k.short))
+      | in-Some-Unvoiced w ↦
+          let i = w.in-Some-Unvoiced in
+          let k = w.with_indexes-t-in-Some-Unvoiced.ensures in
+          line (Some (Unvoiced i.energy i.k1 i.k2 i.k3 i.k4)) (found i.is (rw i.is at i.field-0-is)) (rw w.t-is (k.value ∙ appended_twice _ _ _ _ w.with_word-in-Some-Unvoiced.ensures)) (omega (arith, k.short))
+      | in-Some-Voiced w ↦
+          let i = w.in-Some-Voiced in
+          let k = w.with_indexes-t-in-Some-Voiced.ensures in
+          line (Some (Voiced i.energy i.pitch i.k1 i.k2 i.k3 i.k4 i.k5 i.k6 i.k7 i.k8 i.k9 i.k10)) (found i.is (rw i.is at i.field-0-is)) (rw w.t-is (k.value ∙ appended_twice _ _ _ _ w.with_word-in-Some-Voiced.ensures)) (omega (arith, k.short))
+    ]

@@ -1,4 +1,4 @@
-use borrow.Author.Rules.{rules}
+use Rattle.std.proofs.Common.{rules}
 use Rattle.lister.specs.Lines.{refused_line}
 use Rattle.lister.proofs.Texts.{holds_nothing, holds_more, holds_all}
 use Rattle.lister.proofs.LineLaws.{refused_length}
@@ -8,6 +8,6 @@ pub returns : goal.returns
 unfolding refused_line
 returns c =
     let t = holds_nothing c.empty.ensures in
-    let t = holds_more _ t c.with_word-t.ensures in
-    let t = holds_more _ t c.with_number.ensures in
+    let t = holds_more _ t c.with_word.ensures in
+    let t = holds_more _ t (rw (c.from.ensures, c.number.ensures) at c.with_number.ensures) in
     holds_all (holds_more _ t c.with_byte.ensures) (refused_length _ (search rules))

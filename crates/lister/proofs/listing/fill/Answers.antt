@@ -1,11 +1,7 @@
 -- A line more at each turn, until the lines or the room end.
-use borrow.Author.Rules.{rules}
-use mathlib.Core.Path.{◌∙◌}
-use Rattle.lister.proofs.Filling.{filling_none, filling_more}
+use Rattle.std.proofs.Common.{◌∙◌, rules}
+use Rattle.lister.proofs.Filling.{filling_more}
 use Rattle.lister.proofs.listing.fill.Goals as goal
-
-pub loop-left-init : goal.loop-left-init
-loop-left-init c = (filling_none _ _ _ _, search rules)
 
 pub loop-left-preserved : goal.loop-left-preserved
 loop-left-preserved c =

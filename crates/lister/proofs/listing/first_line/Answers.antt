@@ -1,22 +1,18 @@
-use borrow.Author.Rules.{rules}
-use mathlib.Core.Path.{refl}
-use Rattle.lister.proofs.ListingLaws.{listing_long, listing_refused, listing_phrase, first_fits, line_alone}
+use Rattle.std.proofs.Common.{rules}
+use Rattle.lister.proofs.ListingLaws.{Answers, listing_refused, listing_phrase, first_fits, line_alone}
 use Rattle.lister.proofs.listing.first_line.Goals as goal
-
-pub returns-then-image-asked : goal.returns-then-image-asked
-returns-then-image-asked c =
-    line_alone _ _ _ c.alone.ensures c.refused_line.ensures (listing_long _ _ c.if-image-asked.true)
-
-pub returns-then-refusal-ne-TAKEN : goal.returns-then-refusal-ne-TAKEN
-returns-then-refusal-ne-TAKEN c =
-    line_alone _ _ _ c.alone-then-refusal-ne-TAKEN.ensures c.walk_line.ensures
-    (listing_refused _ _ c.if-image-asked.false c.walk-walked.result c.walk-walked.ensures c.if-refusal-ne-TAKEN.true)
 
 pub overflow_mul-result : goal.overflow_mul-result
 overflow_mul-result c =
-    search (rules, first_fits _ _ c.walk-walked.result c.walk-walked.ensures c.if-refusal-ne-TAKEN.false)
+    let w : Answers c.args.asked c.args.image.now _ = record { long = c.in-Ok.ensures.long; taken = c.in-Ok.ensures.taken } in
+    search (rules, first_fits _ _ _ w)
 
-pub returns : goal.returns
-returns c =
-    listing_phrase _ _ c.if-image-asked.false c.walk-walked.result c.walk-walked.ensures c.if-refusal-ne-TAKEN.false
-    c.count-lines.ensures c.phrase-part.ensures refl c.phrase_line.ensures
+pub returns-in-Ok : goal.returns-in-Ok
+returns-in-Ok c =
+    listing_phrase _ _ c.in-Ok.extent (record { long = c.in-Ok.ensures.long; taken = c.in-Ok.ensures.taken })
+    c.count-count.ensures c.phrase-part.ensures c.phrase_line.ensures
+
+pub returns-in-Err : goal.returns-in-Err
+returns-in-Err c =
+    line_alone _ _ c.walk_line.ensures
+    (listing_refused _ _ c.in-Err.refusal (record { long = c.in-Err.ensures.long; taken = c.in-Err.ensures.taken }))
