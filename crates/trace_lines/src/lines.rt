@@ -1,264 +1,203 @@
-// The lines of the answers. As in `numbers`, each function returns the index after what it puts, and drops what finds no room.
-ghost use Rattle.std.specs.Prelude.{◌≤◌, length};
+// The lines of the answers.
+ghost use Rattle.std.specs.Prelude.{◌≡◌, ◌≤◌, [], length};
 
-use crate::numbers::{integers, natural, put, sample, samples, small, smalls, text};
-use base::refusal::TAKEN;
+use arrayvec::ArrayString;
+use base::refusal::{Refusal, Shortfall, number_of};
 use rates::rate::FrameRate;
-use reports::Details;
-use rom::frames::{MaybeFrame, numbers};
-use rom::phrases::{Walked, phrase, walk};
-use rom::reader::{Shortfall, frame_taken};
+use reports::{Details, Report};
+use rom::frames::numbers;
+use rom::phrases::{Extent, phrase, walk};
+use rom::reader::{Taken, frame_taken};
+use std::fmt::{Display, Write};
+use std::marker::Model;
 use voice::checks::voice_check;
-
-// A letter and a refusal number, with which the answer of a call begins.
-fn head(out: &mut [u8], at: usize, letter: u8, refusal: u8) -> usize
-    ensures { result ≤ length out.old }
-{
-    let p = put(out, at, letter);
-    small(out, p, refusal)
-}
-
-// `I`: the size of an image.
-fn image_line(out: &mut [u8], at: usize, size: usize) -> usize
-    ensures { result ≤ length out.old }
-{
-    let p = put(out, at, b'I');
-    let p = natural(out, p, size as u64);
-    put(out, p, b'\n')
-}
-
-// `V`, `P`, `Q`, `W` and `K`: a letter and a refusal number alone.
-pub fn refusal_line(out: &mut [u8], at: usize, letter: u8, refusal: u8) -> usize
-    ensures { result ≤ length out.old }
-{
-    let p = head(out, at, letter, refusal);
-    put(out, p, b'\n')
-}
-
-// The thirteen numbers of a frame.
-fn frame(out: &mut [u8], at: usize, found: MaybeFrame) -> usize
-    requires { at ≤ length out.old }
-    ensures { result ≤ length out.old }
-{
-    let list = numbers(found);
-    smalls(out, at, &list)
-}
-
-// Where a cut frame begins, and the bits that it lacks.
-fn cut(out: &mut [u8], at: usize, short: Shortfall) -> usize
-    ensures { result ≤ length out.old }
-{
-    let p = natural(out, at, short.begun as u64);
-    natural(out, p, short.missing as u64)
-}
-
-// `F`: a frame taken at a bit of an image.
-fn frame_line(out: &mut [u8], at: usize, image: &[u8], bit: usize) -> usize
-    ensures { result ≤ length out.old }
-{
-    let taken = frame_taken(image, bit);
-    let found = taken.frame;
-    let p = head(out, at, b'F', taken.refusal);
-    let p = natural(out, p, taken.bits as u64);
-    let p = frame(out, p, found);
-    let p = cut(out, p, taken.short);
-    put(out, p, b'\n')
-}
-
-// `G`: a frame taken at a bit of an image, told v, with its rate.
-pub fn rated_frame_line(out: &mut [u8], at: usize, image: &[u8], bit: usize, v: u8) -> usize
-    ensures { result ≤ length out.old }
-{
-    let taken = rates::walks::frame_taken(image, bit, v);
-    let found = taken.frame;
-    let p = head(out, at, b'G', taken.refusal);
-    let p = natural(out, p, taken.bits as u64);
-    let p = frame(out, p, found);
-    let p = small(out, p, taken.rate);
-    let p = cut(out, p, taken.short);
-    put(out, p, b'\n')
-}
-
-// The sum of bytes modulo 65,536.
-fn sum(bytes: &[u8]) -> u64 {
-    let mut total: u64 = 0;
-    for i in 0..bytes.len() {
-        total = (total + bytes[i] as u64) % 65536;
-    }
-    total
-}
-
-// What a walk returns: its number, bits, frames, intervals and samples.
-fn walked(out: &mut [u8], at: usize, letter: u8, walked: Walked) -> usize
-    ensures { result ≤ length out.old }
-{
-    let p = head(out, at, letter, walked.refusal);
-    let p = natural(out, p, walked.bits as u64);
-    let frames = walked.frames;
-    let intervals = walked.intervals;
-    let samples = walked.samples;
-    let p = natural(out, p, frames.count() as u64);
-    let p = natural(out, p, intervals.count());
-    natural(out, p, samples.count())
-}
-
-// A walk, with the length of its part, the sum of the part's bytes, and how short the image is.
-fn walked_line(out: &mut [u8], at: usize, letter: u8, numbers: Walked, part: &[u8]) -> usize
-    ensures { result ≤ length out.old }
-{
-    let p = walked(out, at, letter, numbers);
-    let p = natural(out, p, part.len() as u64);
-    let p = natural(out, p, sum(part));
-    let p = cut(out, p, numbers.short);
-    put(out, p, b'\n')
-}
-
-// `A`: a walk of an image from a byte address.
-fn walk_line(out: &mut [u8], at: usize, image: &[u8], address: usize) -> usize
-    ensures { result ≤ length out.old }
-{
-    let part = phrase(image, address);
-    walked_line(out, at, b'A', walk(image, address), part)
-}
-
-// `B`: the same, told v and rr.
-pub fn rated_walk_line(
-    out: &mut [u8],
-    at: usize,
-    image: &[u8],
-    address: usize,
-    rate: FrameRate,
-) -> usize
-    ensures { result ≤ length out.old }
-{
-    let part = rates::walks::phrase(image, address, rate);
-    walked_line(
-        out,
-        at,
-        b'B',
-        rates::walks::walk(image, address, rate),
-        part,
-    )
-}
-
-// The answer to a record that asks nothing of a chip, `I`, `V`, `F` or `A`, with its u32.
-pub fn told_line(
-    out: &mut [u8],
-    at: usize,
-    letter: u8,
-    n: usize,
-    image: &[u8],
-    voice: &[u8],
-) -> usize
-    ensures { result ≤ length out.old }
-{
-    match letter {
-        b'I' => image_line(out, at, n),
-        b'V' => refusal_line(out, at, b'V', voice_check(voice)),
-        b'F' => frame_line(out, at, image, n),
-        _ => walk_line(out, at, image, n),
-    }
-}
-
-// `R` and `L`: a byte read, and a look.
-pub fn read_line(out: &mut [u8], at: usize, letter: u8, refusal: u8, byte: u8) -> usize
-    ensures { result ≤ length out.old }
-{
-    let p = head(out, at, letter, refusal);
-    let p = small(out, p, byte);
-    put(out, p, b'\n')
-}
-
-// What a step gives besides its report.
-fn besides(out: &mut [u8], at: usize, details: Details) -> usize
-    ensures { result ≤ length out.old }
-{
-    let p = small(out, at, details.rate);
-    let p = natural(out, p, details.begun as u64);
-    let p = natural(out, p, details.used_up as u64);
-    let p = natural(out, p, details.missing as u64);
-    natural(out, p, details.thrown as u64)
-}
-
-// `T`: a sample step, with the number of its report, the frame that it reports and what it gives besides.
-pub fn step_line(
-    out: &mut [u8],
-    at: usize,
-    refusal: u8,
-    value: i16,
-    report: u8,
-    found: MaybeFrame,
-    details: Details,
-) -> usize
-    ensures { result ≤ length out.old }
-{
-    let p = head(out, at, b'T', refusal);
-    let p = sample(out, p, value);
-    let p = small(out, p, report);
-    let p = frame(out, p, found);
-    let p = besides(out, p, details);
-    put(out, p, b'\n')
-}
 
 // What each element of a run's buffer is before the call. No sample is so large.
 pub const UNTOUCHED: i16 = 9999;
 
-// Whether any element is another than before the call.
-fn is_touched(values: &[i16]) -> bool {
-    let mut touched = false;
-    for i in 0..values.len() {
-        touched = touched | (values[i] != UNTOUCHED);
+// The sum of bytes modulo 65,536.
+fn sum(bytes: &[u8]) -> u16 {
+    bytes
+        .iter()
+        .fold(0u16, |total, &byte| total.wrapping_add(u16::from(byte)))
+}
+
+// Lines that are still to be written out. What finds no room is dropped.
+#[derive(Drop)]
+pub struct Lines {
+    text: ArrayString<65536>,
+}
+
+// What they are in a contract: the bytes.
+impl Model for Lines {
+    ghost use Rattle.std.specs.Prelude.{ℕ, List};
+
+    ghost Value = { List ℕ };
+
+    ghost view = { λ lines. lines.text.bytes };
+}
+
+impl Lines {
+    pub fn new() -> Lines
+        ensures { result ≡ [] }
+    {
+        Lines {
+            text: ArrayString::new(),
+        }
     }
-    touched
-}
 
-// A taken run: how many samples, and the samples.
-fn taken_run(out: &mut [u8], at: usize, values: &[i16]) -> usize
-    ensures { result ≤ length out.old }
-{
-    let p = head(out, at, b'U', TAKEN);
-    let p = natural(out, p, values.len() as u64);
-    let p = samples(out, p, values);
-    put(out, p, b'\n')
-}
-
-// A refused run: no sample, and whether an element was touched.
-fn refused_run(out: &mut [u8], at: usize, refusal: u8, values: &[i16]) -> usize
-    ensures { result ≤ length out.old }
-{
-    let p = head(out, at, b'U', refusal);
-    let p = small(out, p, 0);
-    if is_touched(values) {
-        text(out, p, b" touched\n")
-    } else {
-        put(out, p, b'\n')
+    pub fn as_bytes(&self) -> &[u8]
+        ensures value { result.now ≡ self.now }
+        ensures fits { length result.now ≤ 65536 }
+    {
+        self.text.as_str().as_bytes()
     }
-}
 
-// `U`: a run into a buffer.
-pub fn run_line(out: &mut [u8], at: usize, refusal: u8, values: &[i16]) -> usize
-    ensures { result ≤ length out.old }
-{
-    if refusal == TAKEN {
-        taken_run(out, at, values)
-    } else {
-        refused_run(out, at, refusal, values)
+    pub fn clear(&mut self)
+        ensures { self.new ≡ [] }
+    {
+        self.text.clear();
     }
-}
 
-// `C`: the numbers of a chip.
-pub fn chip_line(out: &mut [u8], at: usize, list: &[i64]) -> usize
-    ensures { result ≤ length out.old }
-{
-    let p = put(out, at, b'C');
-    let p = integers(out, p, list);
-    put(out, p, b'\n')
-}
+    fn put<D: Display + Drop>(&mut self, text: D) {
+        let _ = self.text.write(text);
+    }
 
-// The line that ends the answers to a bad script.
-pub fn bad_line(out: &mut [u8], at: usize) -> usize
-    requires { at ≤ length out.old }
-    ensures { result ≤ length out.old }
-{
-    text(out, at, b"bad script\n")
+    // Numbers, a space before each.
+    fn put_each<N: Display>(&mut self, list: &[N]) {
+        for n in list {
+            self.put(format_args!(" {n}"));
+        }
+    }
+
+    // A letter and a refusal number, with which the answer of a call begins.
+    fn head<T>(&mut self, letter: char, answer: &Result<T, Refusal>) {
+        self.put(format_args!("{letter} {}", number_of(answer)));
+    }
+
+    // Where a cut frame begins, and the bits that it lacks, with which a line ends.
+    fn cut<T>(&mut self, answer: &Result<T, Refusal>) {
+        let short = match answer {
+            Ok(_) => Shortfall::none(),
+            Err(refusal) => refusal.shortfall(),
+        };
+        self.put(format_args!(" {} {}\n", short.begun, short.missing));
+    }
+
+    // `I`: the size of an image.
+    fn image_line(&mut self, size: usize) {
+        self.put(format_args!("I {size}\n"));
+    }
+
+    // `V`, `P`, `Q`, `O`, `W` and `K`: a letter and a refusal number alone.
+    pub fn refusal_line<T>(&mut self, letter: char, answer: &Result<T, Refusal>) {
+        self.head(letter, answer);
+        self.put('\n');
+    }
+
+    // A frame taken: its bits and its thirteen numbers.
+    fn taken(&mut self, letter: char, answer: Result<Taken, Refusal>) {
+        self.head(letter, &answer);
+        self.put(format_args!(" {}", answer.map_or(0, |taken| taken.bits)));
+        self.put_each(&numbers(answer.ok().map(|taken| taken.frame)));
+    }
+
+    // `F`: a frame taken at a bit of an image.
+    fn frame_line(&mut self, image: &[u8], bit: usize) {
+        let answer = frame_taken(image, bit);
+        self.taken('F', answer);
+        self.cut(&answer);
+    }
+
+    // `G`: a frame taken at a bit of an image, told v, with its rate.
+    pub fn rated_frame_line(&mut self, image: &[u8], bit: usize, v: u8) {
+        let answer = rates::walks::frame_taken(image, bit, v);
+        self.taken('G', answer);
+        self.put(format_args!(" {}", answer.map_or(0, |taken| taken.rate)));
+        self.cut(&answer);
+    }
+
+    // A walk: its bits, frames, intervals and samples, and the length of its part with the sum of the part's bytes.
+    fn walked_line(&mut self, letter: char, answer: Result<Extent, Refusal>, part: &[u8]) {
+        self.head(letter, &answer);
+        match answer {
+            Ok(extent) => self.put(format_args!(
+                " {} {} {} {}",
+                extent.bits,
+                extent.frames.count(),
+                extent.intervals.count(),
+                extent.samples.count()
+            )),
+            Err(_) => self.put(" 0 0 0 0"),
+        }
+        self.put(format_args!(" {} {}", part.len(), sum(part)));
+        self.cut(&answer);
+    }
+
+    // `A`: a walk of an image from a byte address.
+    fn walk_line(&mut self, image: &[u8], address: usize) {
+        self.walked_line('A', walk(image, address), phrase(image, address));
+    }
+
+    // `B`: the same, told v and rr.
+    pub fn rated_walk_line(&mut self, image: &[u8], address: usize, rate: FrameRate) {
+        let answer = rates::walks::walk(image, address, rate);
+        let part = rates::walks::phrase(image, address, rate);
+        self.walked_line('B', answer, part);
+    }
+
+    // The answer to a record that asks nothing of a chip, `I`, `V`, `F` or `A`, with its u32.
+    pub fn told_line(&mut self, letter: u8, n: usize, image: &[u8], voice: &[u8]) {
+        match letter {
+            b'I' => self.image_line(n),
+            b'V' => self.refusal_line('V', &voice_check(voice)),
+            b'F' => self.frame_line(image, n),
+            _ => self.walk_line(image, n),
+        }
+    }
+
+    // `R` and `L`: a byte read, and a look.
+    pub fn read_line(&mut self, letter: char, answer: Result<u8, Refusal>) {
+        self.head(letter, &answer);
+        self.put(format_args!(" {}\n", answer.unwrap_or(0)));
+    }
+
+    // `T`: a sample step, with the number of its report, the frame that it reports and what it gives besides.
+    pub fn step_line(&mut self, answer: Result<(i16, Report, Details), Refusal>) {
+        self.head('T', &answer);
+        let (sample, report, details) = answer.unwrap_or((0, Report::Nothing, Details::none()));
+        self.put(format_args!(" {sample} {}", report.number()));
+        self.put_each(&numbers(report.frame()));
+        self.put(format_args!(
+            " {} {} {} {} {}\n",
+            details.rate, details.begun, details.used_up, details.missing, details.thrown
+        ));
+    }
+
+    // `U`: a run into a buffer. Refused, it has no sample, and the line says whether an element was touched.
+    pub fn run_line<T>(&mut self, answer: &Result<T, Refusal>, values: &[i16]) {
+        self.head('U', answer);
+        if answer.is_ok() {
+            self.put(format_args!(" {}", values.len()));
+            self.put_each(values);
+        } else {
+            self.put(" 0");
+            if values.iter().any(|&value| value != UNTOUCHED) {
+                self.put(" touched");
+            }
+        }
+        self.put('\n');
+    }
+
+    // `C`: the numbers of a chip.
+    pub fn chip_line(&mut self, list: &[i64]) {
+        self.put('C');
+        self.put_each(list);
+        self.put('\n');
+    }
+
+    // The line that ends the answers to a bad script.
+    pub fn bad_line(&mut self) {
+        self.put("bad script\n");
+    }
 }

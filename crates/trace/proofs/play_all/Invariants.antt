@@ -1,11 +1,9 @@
--- A record more at each turn, within the script, and the used part of the buffer within the buffer.
-use mathlib.Core.Path.{◌≡◌}
-use Prim.Native.Nat.{◌-◌, ◌≤◌}
-use lib.ListN.{length}
+-- A record more at each turn, within the script.
+use Rattle.std.proofs.Common.{◌-◌, ◌≤◌, length}
 use Rattle.trace.proofs.play_all.Given as goal
 
 abbrev pub invariant-loop-at : goal.invariant-loop-at
-invariant-loop-at l = (length l.out ≡ length l.initial.out) × (l.at ≤ length l.script) × (l.used ≤ length l.initial.out)
+invariant-loop-at l = l.at ≤ length l.script
 
 abbrev pub decreases-loop-at : goal.decreases-loop-at
 decreases-loop-at l = length l.script - l.at
