@@ -37,8 +37,8 @@ fn write_listing(rt: &HostRuntime, image: &[u8], asked: Asked) -> io::Result<()>
     write_lines(rt, image, first.lines)
 }
 
-// Room for one byte more than an image may have, so that a longer input is noticed. Written in place, an array of so many elements leaves
-// the proof of its slice open.
+// Room for one byte more than an image may have, so that a longer input is noticed. A function of its own, for the proof of a slice of it
+// does not close where an array of so many elements is written in place.
 fn room() -> [u8; 262145]
     ensures { 262145 ≡ length result }
 {

@@ -55,7 +55,8 @@ fn play_script(rt: &HostRuntime, script: &[u8]) -> io::Result<()> {
     play_all(rt, script, &mut lines)
 }
 
-// Room for one byte more than a script may have, so that a longer one is seen.
+// Room for one byte more than a script may have, so that a longer one is seen. A function of its own, for the checker runs out of stack
+// where an array of so many elements is written in place.
 fn room() -> [u8; 1048577]
     ensures { 1048577 ≡ length result }
 {

@@ -17,9 +17,9 @@ use trace_state::to_list::state_numbers;
 // The image and the voice file, which are parts of the script, and the chip.
 #[derive(Clone, Copy)]
 pub struct Player<'a> {
-    pub image: &'a [u8],
-    pub voice: &'a [u8],
-    pub chip: Chip,
+    image: &'a [u8],
+    voice: &'a [u8],
+    chip: Chip,
 }
 
 // The numbers of a state.
