@@ -103,20 +103,14 @@ fn from_rom(control: Control, image: &[u8], pitch_bits: PitchWidth) -> Moved
     let position = control.address.position;
     let prefix = control.device.rate().prefix_bits();
     let bits = field_at(image, position, prefix);
-    match frame_from(image, position, position + prefix, pitch_bits) {
-        Ok((frame, next)) => begin_frame(
-            control,
-            bits,
-            frame,
-            next,
-            control.fifo,
-            Details::rated(bits),
-        ),
-        Err(short) => {
-            let end = position.max(8 * image.len());
-            run_out(control, end, control.fifo, Details::out_of_rom(short))
-        }
-    }
+    let answer = frame_from(image, position, position + prefix, pitch_bits);
+    let Ok((frame, next)) = answer else {
+        let end = position.max(8 * image.len());
+        let details = Details::out_of_rom(answer.unwrap_err());
+        return run_out(control, end, control.fifo, details);
+    };
+    let details = Details::rated(bits);
+    begin_frame(control, bits, frame, next, control.fifo, details)
 }
 
 // Running out in the FIFO, in a frame that lacks some bits, or none.
@@ -151,18 +145,17 @@ fn from_fifo(control: Control, pitch_bits: PitchWidth) -> Moved
     let used = usize::from(held.used_bits);
     let prefix = control.device.rate().prefix_bits();
     let bits = field_at(&bytes[..level], used, prefix);
-    match frame_from(&bytes[..level], used, used + prefix, pitch_bits) {
-        Ok((frame, next)) => {
-            let stop = is_stop(frame);
-            if stop || next < 8 * level {
-                let details = Details::of_frame(bits, thrown(stop, 8 * level - next));
-                let position = control.address.position;
-                begin_frame(control, bits, frame, position, held.use_up(next), details)
-            } else {
-                fifo_out(control, 0)
-            }
-        }
-        Err(short) => fifo_out(control, short.missing),
+    let answer = frame_from(&bytes[..level], used, used + prefix, pitch_bits);
+    let Ok((frame, next)) = answer else {
+        return fifo_out(control, answer.unwrap_err().missing);
+    };
+    let stop = is_stop(frame);
+    if stop || next < 8 * level {
+        let details = Details::of_frame(bits, thrown(stop, 8 * level - next));
+        let position = control.address.position;
+        begin_frame(control, bits, frame, position, held.use_up(next), details)
+    } else {
+        fifo_out(control, 0)
     }
 }
 

@@ -21,7 +21,7 @@ overflow_sub-level c =
     let array : length c.read_bytes-bytes.result ≡ 16 =
     ap (λ (l : List ℕ). length l) c.read_bytes-bytes.ensures ∙ length_read f.order f.bytes ∙ sixteen in
     let lent = lent_length f.level c.read_bytes-bytes.result array c.requires.1 in
-    let read = rw c.from-level.ensures at c.frame_from.ensures in
+    let read = rw c.from-level.ensures at c.frame_from-answer.ensures in
     omega (arith, (whole_frame_lem _ _ _ _ read c.in-Ok.is).inside, lent, c.from-level.ensures)
 
 pub use_up-requires : goal.use_up-requires
@@ -31,5 +31,5 @@ use_up-requires c =
     let array : length c.read_bytes-bytes.result ≡ 16 =
     ap (λ (l : List ℕ). length l) c.read_bytes-bytes.ensures ∙ length_read f.order f.bytes ∙ sixteen in
     let lent = lent_length f.level c.read_bytes-bytes.result array c.requires.1 in
-    let read = rw c.from-level.ensures at c.frame_from.ensures in
+    let read = rw c.from-level.ensures at c.frame_from-answer.ensures in
     (omega (arith, (whole_frame_lem _ _ _ _ read c.in-Ok.is).inside, lent), c.requires.1)
