@@ -28,6 +28,7 @@ pub extern "C" fn tms_abi() -> u32
 }
 
 // Puts the numbers of the chip that a call handed back in place, and gives the call's number; refused, they stay as they were.
+#[inline(always)]
 fn settle(chip: &mut Numbers, answer: Result<Chip, Refusal>) -> u8
     ensures value { result ≡ number_of_answer answer }
     ensures chip_after { chip.new ≡ settled chip.old answer }

@@ -42,14 +42,13 @@ fn raises(control: Control, mode: Mode, fifo: Fifo) -> bool
 fn change(control: Control, mode: Mode, position: usize, fifo: Fifo, clock: Clock) -> Control
     ensures { result ≡ changed control mode position fifo clock }
 {
-    Control {
-        mode,
-        address: control.address.move_to(position),
-        fifo,
-        port: control.port.raise(raises(control, mode, fifo)),
-        clock,
-        ..control
-    }
+    let raised = raises(control, mode, fifo);
+    control
+        .with_mode(mode)
+        .with_address(control.address.move_to(position))
+        .with_fifo(fifo)
+        .with_port(control.port.raise(raised))
+        .with_clock(clock)
 }
 
 // The control after a frame with these rate bits, the position and the FIFO moved on, and what the step gives besides. As a call of its own
