@@ -12,6 +12,7 @@ use crate::params::Params;
 use crate::state::Sound;
 use base::units::{Frames, Intervals};
 use filter::filter::STAGES;
+use std::array;
 
 // The divisors 8, 8, 8, 4, 4, 2, 2, 1 of the intervals, as powers of two.
 const SHIFTS: [u32; Frames::INTERVALS as usize] = [3, 3, 3, 2, 2, 1, 1, 0];
@@ -24,8 +25,7 @@ fn shift_of(interval: Intervals) -> u32
     requires { interval.0 < intervals_per_frame }
     ensures { (result < 4) × (2 ^ result ≡ divisor interval) }
 {
-    let i = interval.count() as usize;
-    SHIFTS[i]
+    SHIFTS[interval.count() as usize]
 }
 
 // One step of a value towards its target: the difference, divided by a power of two and rounded down, is added.
@@ -41,13 +41,7 @@ fn toward_each(current: [i32; STAGES], target: [i32; STAGES], shift: u32) -> [i3
     requires { (TenBetween 512 511 current) × (TenBetween 512 511 target) × (shift < 4) }
     ensures { result ≡ zip_with (toward_by (2 ^ shift)) current target }
 {
-    let mut r = current;
-    for i in 0..STAGES {
-        let c = current[i];
-        let t = target[i];
-        r[i] = toward(c, t, shift);
-    }
-    r
+    array::from_fn(|i| toward(current[i], target[i], shift))
 }
 
 impl Params {
@@ -56,12 +50,11 @@ impl Params {
         requires { (params_valid self ≡ true) × (params_valid target ≡ true) × (shift < 4) }
         ensures { result ≡ toward_params (2 ^ shift) self target }
     {
-        let from = self.k;
-        let to = target.k;
-        let energy = toward(self.energy, target.energy, shift);
-        let pitch = toward(self.pitch, target.pitch, shift);
-        let k = toward_each(from, to, shift);
-        Params { energy, pitch, k }
+        Params {
+            energy: toward(self.energy, target.energy, shift),
+            pitch: toward(self.pitch, target.pitch, shift),
+            k: toward_each(self.k, target.k, shift),
+        }
     }
 }
 
@@ -71,11 +64,9 @@ impl Sound {
         requires { (sound_valid self ≡ true) × (interval.0 < intervals_per_frame) }
         ensures { result ≡ interpolated interval self }
     {
-        if (interval.count() < ARRIVAL) & self.hold {
+        if interval.count() < ARRIVAL && self.hold {
             return self;
         }
-        let from = self.current;
-        let to = self.target;
-        self.with_current(from.toward(to, shift_of(interval)))
+        self.with_current(self.current.toward(self.target, shift_of(interval)))
     }
 }

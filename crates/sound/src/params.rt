@@ -7,7 +7,7 @@ use filter::filter::STAGES;
 use filter::range::{all_inside, is_inside};
 
 // Energy and pitch, and K1 to K10.
-#[derive(Clone, Copy)]
+#[derive(Clone, Copy, Debug, Default, PartialEq, Eq)]
 pub struct Params {
     pub energy: i32,
     pub pitch: i32,
@@ -26,8 +26,9 @@ impl Params {
     fn is_inside(self, top: i32, low: i32, high: i32) -> bool
         ensures { result ≡ params_inside top low high self }
     {
-        let k = self.k;
-        is_inside(self.energy, 0, top) & is_inside(self.pitch, 0, top) & all_inside(k, low, high)
+        is_inside(self.energy, 0, top)
+            & is_inside(self.pitch, 0, top)
+            & all_inside(self.k, low, high)
     }
 
     pub(crate) fn valid(self) -> bool

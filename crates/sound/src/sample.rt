@@ -7,6 +7,7 @@ ghost use Rattle.sound.specs.Sample.{excitation_of, input_of, value_of, renewed,
 ghost use Rattle.sound.specs.State.{sound_valid};
 
 use crate::noise::next_noise;
+use crate::params::Params;
 use crate::pulse::next_pulse;
 use crate::state::Sound;
 use filter::filter::{STAGES, filter};
@@ -28,7 +29,7 @@ const NOISE_HIGH: i32 = 64;
 const EXCITATION_SHIFT: i32 = 6;
 
 // The sound after a sample, and the sample.
-#[derive(Clone, Copy)]
+#[derive(Clone, Copy, Debug, PartialEq, Eq)]
 pub struct Sampled {
     pub sound: Sound,
     pub value: i16,
@@ -62,7 +63,12 @@ impl Sound {
     fn renew(self, memory: [i32; STAGES], noise: u32, pulse: u32) -> Sound
         ensures { result ≡ renewed memory noise pulse self }
     {
-        self.with_pulse(pulse).with_noise(noise).with_memory(memory)
+        Sound {
+            memory,
+            noise,
+            pulse,
+            ..self
+        }
     }
 
     // A sample, with the pulses of a voice file.
@@ -70,14 +76,13 @@ impl Sound {
         requires { sound_valid self ≡ true }
         ensures { result ≡ sampled pitch_bits file.now self }
     {
-        let current = self.current;
-        let target = self.target;
-        let k = current.k;
+        let Params { energy, pitch, k } = self.current;
+        let voiced = self.target.is_voiced();
         let mut memory = self.memory;
-        let x = excitation(file, target.is_voiced(), self.pulse, self.noise, pitch_bits);
-        let value = filtered(&k, &mut memory, current.energy, x);
+        let x = excitation(file, voiced, self.pulse, self.noise, pitch_bits);
+        let value = filtered(&k, &mut memory, energy, x);
         let noise = next_noise(self.noise);
-        let pulse = next_pulse(self.pulse, current.pitch);
+        let pulse = next_pulse(self.pulse, pitch);
         let sound = self.renew(memory, noise, pulse);
         Sampled { sound, value }
     }
@@ -88,20 +93,16 @@ impl Sound {
         ensures value { result ≡ sound_after pitch_bits file.now (length out.old) self }
         ensures out_after { out.new ≡ values_of pitch_bits file.now (length out.old) self }
     {
-        let current = self.current;
-        let target = self.target;
-        let k = current.k;
-        let voiced = target.is_voiced();
+        let Params { energy, pitch, k } = self.current;
+        let voiced = self.target.is_voiced();
         let mut memory = self.memory;
         let mut noise = self.noise;
         let mut pulse = self.pulse;
-        let mut i = 0;
-        while i < out.len() {
+        for value in out {
             let x = excitation(file, voiced, pulse, noise, pitch_bits);
-            out[i] = filtered(&k, &mut memory, current.energy, x);
+            *value = filtered(&k, &mut memory, energy, x);
             noise = next_noise(noise);
-            pulse = next_pulse(pulse, current.pitch);
-            i += 1;
+            pulse = next_pulse(pulse, pitch);
         }
         self.renew(memory, noise, pulse)
     }

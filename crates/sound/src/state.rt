@@ -8,7 +8,7 @@ use filter::range::all_inside;
 
 // The currents and the targets, the filter's memory, the noise register and the pulse place, and whether the frame holds its
 // currents.
-#[derive(Clone, Copy)]
+#[derive(Clone, Copy, Debug, PartialEq, Eq)]
 pub struct Sound {
     pub current: Params,
     pub target: Params,
@@ -28,16 +28,10 @@ impl Sound {
     pub fn at_rest() -> Sound
         ensures { result ≡ rest_sound }
     {
-        let zeros = [0i32; STAGES];
-        let params = Params {
-            energy: 0,
-            pitch: 0,
-            k: zeros,
-        };
         Sound {
-            current: params,
-            target: params,
-            memory: zeros,
+            current: Params::default(),
+            target: Params::default(),
+            memory: [0; STAGES],
             noise: Self::NOISE_MAX,
             pulse: 0,
             hold: false,
@@ -47,61 +41,46 @@ impl Sound {
     pub fn with_current(self, current: Params) -> Sound
         ensures { result ≡ with_current current self }
     {
-        let mut sound = self;
-        sound.current = current;
-        sound
+        Sound { current, ..self }
     }
 
     pub fn with_target(self, target: Params) -> Sound
         ensures { result ≡ with_target target self }
     {
-        let mut sound = self;
-        sound.target = target;
-        sound
+        Sound { target, ..self }
     }
 
     pub fn with_memory(self, memory: [i32; STAGES]) -> Sound
         ensures { result ≡ with_memory memory self }
     {
-        let mut sound = self;
-        sound.memory = memory;
-        sound
+        Sound { memory, ..self }
     }
 
     pub fn with_noise(self, noise: u32) -> Sound
         ensures { result ≡ with_noise noise self }
     {
-        let mut sound = self;
-        sound.noise = noise;
-        sound
+        Sound { noise, ..self }
     }
 
     pub fn with_pulse(self, pulse: u32) -> Sound
         ensures { result ≡ with_pulse pulse self }
     {
-        let mut sound = self;
-        sound.pulse = pulse;
-        sound
+        Sound { pulse, ..self }
     }
 
     pub fn with_hold(self, hold: bool) -> Sound
         ensures { result ≡ with_hold hold self }
     {
-        let mut sound = self;
-        sound.hold = hold;
-        sound
+        Sound { hold, ..self }
     }
 
     // Whether it equals the sound at rest.
     pub fn is_at_rest(self) -> bool
         ensures { result ≡ at_rest self }
     {
-        let current = self.current;
-        let target = self.target;
-        let memory = self.memory;
-        current.is_zero()
-            & target.is_zero()
-            & all_inside(memory, 0, 0)
+        self.current.is_zero()
+            & self.target.is_zero()
+            & all_inside(self.memory, 0, 0)
             & (self.noise == Self::NOISE_MAX)
             & (self.pulse == 0)
             & !self.hold
@@ -111,14 +90,10 @@ impl Sound {
     pub fn valid(self) -> bool
         ensures { result ≡ sound_valid self }
     {
-        let current = self.current;
-        let target = self.target;
-        let memory = self.memory;
-        let noise = self.noise;
-        current.valid()
-            & target.valid()
-            & all_inside(memory, MEMORY_MIN, MEMORY_MAX)
-            & ((1 <= noise) & (noise <= Self::NOISE_MAX))
+        self.current.valid()
+            & self.target.valid()
+            & all_inside(self.memory, MEMORY_MIN, MEMORY_MAX)
+            & (1..=Self::NOISE_MAX).contains(&self.noise)
             & (self.pulse <= Self::PULSE_MAX)
     }
 }

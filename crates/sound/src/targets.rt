@@ -11,25 +11,15 @@ use voice::lookup::{energy, k, pitch};
 fn targets(file: &[u8], frame: Frame, old: Params, pitch_bits: PitchWidth) -> Params
     ensures { result ≡ targets_of pitch_bits file.now frame old }
 {
-    let kept = old.k;
     match frame {
-        Frame::Silence => Params {
-            energy: 0,
-            pitch: old.pitch,
-            k: kept,
-        },
-        Frame::Stop => Params {
-            energy: 0,
-            pitch: old.pitch,
-            k: kept,
-        },
+        Frame::Silence | Frame::Stop => Params { energy: 0, ..old },
         Frame::Repeat {
             energy: e,
             pitch: p,
         } => Params {
             energy: energy(file, e, pitch_bits),
             pitch: pitch(file, p, pitch_bits),
-            k: kept,
+            ..old
         },
         Frame::Unvoiced {
             energy: e,
@@ -89,9 +79,7 @@ fn targets(file: &[u8], frame: Frame, old: Params, pitch_bits: PitchWidth) -> Pa
 fn holds(old: Params, new: Params) -> bool
     ensures { result ≡ holds old new }
 {
-    let was = old.is_voiced();
-    let is = new.is_voiced();
-    (was & !is) | (!was & is) | (old.is_mute() & !new.is_mute())
+    old.is_voiced() != new.is_voiced() || (old.is_mute() && !new.is_mute())
 }
 
 impl Sound {
@@ -99,8 +87,12 @@ impl Sound {
     pub fn set_targets(self, file: &[u8], frame: Frame, pitch_bits: PitchWidth) -> Sound
         ensures { result ≡ with_targets pitch_bits file.now frame self }
     {
-        let old = self.target;
-        let new = targets(file, frame, old, pitch_bits);
-        self.with_target(new).with_hold(holds(old, new))
+        let target = targets(file, frame, self.target, pitch_bits);
+        let hold = holds(self.target, target);
+        Sound {
+            target,
+            hold,
+            ..self
+        }
     }
 }

@@ -3,14 +3,14 @@ use Rattle.base.proofs.Range.{passed, wider}
 use Rattle.sound.proofs.Validity.{ParamsBetween, params_tested}
 use Rattle.sound.proofs.params.Params.toward.Goals as goal
 
-pub toward-pitch-requires : goal.toward-pitch-requires
-toward-pitch-requires c =
+pub toward-requires-2 : goal.toward-requires-2
+toward-requires-2 c =
     let from : ParamsBetween 1023 512 511 c.args.self = params_tested 512 511 1023 c.args.self c.requires.0 in
     let to : ParamsBetween 1023 512 511 c.args.target = params_tested 512 511 1023 c.args.target c.requires.1 in
     (passed tt (wider from.pitch tt tt), passed tt (wider to.pitch tt tt), c.requires.2)
 
-pub toward_each-k-requires : goal.toward_each-k-requires
-toward_each-k-requires c =
+pub toward_each-requires : goal.toward_each-requires
+toward_each-requires c =
     let from : ParamsBetween 1023 512 511 c.args.self = params_tested 512 511 1023 c.args.self c.requires.0 in
     let to : ParamsBetween 1023 512 511 c.args.target = params_tested 512 511 1023 c.args.target c.requires.1 in
     (from.k, to.k, c.requires.2)

@@ -1,14 +1,12 @@
-use mathlib.Core.Path.{◌≡◌}
-use mathlib.Core.Bool.{true, false}
-use Rattle.sound.specs.Interpolation.{keeps_current, interpolated}
+use native.Mathlib.Omega.{arith}
+use Rattle.std.proofs.lemmas.Grind.{common_steps}
+use Rattle.sound.specs.Interpolation.{interpolated}
 use Rattle.sound.proofs.Validity.{ranges, params_valid_lem}
 use Rattle.sound.proofs.state.Sound.interpolate.Goals as goal
 
-pub returns-then-count-self : goal.returns-then-count-self
+pub returns-then-self : goal.returns-then-self
 unfolding interpolated
-returns-then-count-self c =
-    let kept : keeps_current c.args.interval c.args.self ≡ true = rw c.count.ensures at c.if-count-self.true in
-    rw kept
+returns-then-self c = grind (arith, common_steps)
 
 pub toward-requires : goal.toward-requires
 toward-requires c =
@@ -17,6 +15,4 @@ toward-requires c =
 
 pub returns : goal.returns
 unfolding interpolated
-returns c =
-    let moves : keeps_current c.args.interval c.args.self ≡ false = rw c.count.ensures at c.if-count-self.false in
-    rw (moves, c.with_current.ensures, c.toward.ensures, c.shift_of.ensures.1)
+returns c = grind (arith, common_steps, c.shift_of.ensures.1)

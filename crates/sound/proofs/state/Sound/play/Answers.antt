@@ -13,18 +13,18 @@ use Rattle.sound.proofs.state.Sound.play.Goals as goal
 
 pub loop-value-init : goal.loop-value-init
 loop-value-init c =
-    filled_none (sound_step _ _) SoundRanges _ _ (ranges _ c.requires)
+    filled_none (sound_step _ _) SoundRanges _ _ (ranges _ c.requires.0)
 
 pub filtered-requires : goal.filtered-requires
 filtered-requires c =
     let excited : Between 128 127 c.excitation-x.result =
-    rw c.excitation-x.ensures (excitation_range c.args.pitch_bits c.args.file.now c.is_voiced-voiced.result c.loop-i.pulse c.loop-i.noise) in
-    (c.loop-i.invariant.holds.current.k, c.loop-i.invariant.holds.memory, passed tt c.loop-i.invariant.holds.current.energy, passed tt excited)
+    rw c.excitation-x.ensures (excitation_range c.args.pitch_bits c.args.file.now c.is_voiced-voiced.result c.loop-value.pulse c.loop-value.noise) in
+    (c.loop-value.invariant.holds.current.k, c.loop-value.invariant.holds.memory, passed tt c.loop-value.invariant.holds.current.energy, passed tt excited)
 
-pub loop-i-preserved : goal.loop-i-preserved
-loop-i-preserved c =
+pub loop-value-preserved : goal.loop-value-preserved
+loop-value-preserved c =
     let a = c.args in
-    let l = c.loop-i in
+    let l = c.loop-value in
     let v = c.filtered in
     let x = c.excitation-x in
     let ok = l.invariant.holds in

@@ -13,7 +13,7 @@ filtered-value-requires c =
     let a = c.args in
     let ok : SoundRanges a.self = ranges a.self c.requires in
     let excited : Between 128 127 c.excitation-x.result =
-    rw c.excitation-x.ensures (excitation_range a.pitch_bits a.file.now c.is_voiced.result a.self.pulse a.self.noise) in
+    rw c.excitation-x.ensures (excitation_range a.pitch_bits a.file.now c.is_voiced-voiced.result a.self.pulse a.self.noise) in
     (ok.current.k, ok.memory, passed tt ok.current.energy, passed tt excited)
 
 pub next_noise-noise-requires : goal.next_noise-noise-requires
@@ -31,9 +31,9 @@ returns c =
     let v = c.filtered-value in
     let x = c.excitation-x in
     let excited : Between 128 127 x.result =
-    rw x.ensures (excitation_range a.pitch_bits a.file.now c.is_voiced.result a.self.pulse a.self.noise) in
-    let value = rw (x.ensures, c.is_voiced.ensures) at (simp (read tt ok.current.energy, read tt excited) at v.ensures.value) in
-    let memory = rw (x.ensures, c.is_voiced.ensures) at (simp (read tt ok.current.energy, read tt excited) at v.ensures.memory_after) in
+    rw x.ensures (excitation_range a.pitch_bits a.file.now c.is_voiced-voiced.result a.self.pulse a.self.noise) in
+    let value = rw (x.ensures, c.is_voiced-voiced.ensures) at (simp (read tt ok.current.energy, read tt excited) at v.ensures.value) in
+    let memory = rw (x.ensures, c.is_voiced-voiced.ensures) at (simp (read tt ok.current.energy, read tt excited) at v.ensures.memory_after) in
     rw c.renew-sound.ensures
     (sampled_is a.pitch_bits a.file.now a.self
     (record {
