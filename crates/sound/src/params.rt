@@ -1,6 +1,6 @@
 // The parameters of the sound, which are its currents or its targets, and their ranges.
 ghost use Rattle.std.specs.Prelude.{◌≡◌};
-ghost use Rattle.sound.specs.State.{params_inside, params_valid, zero_params};
+ghost use Rattle.sound.specs.State.{params_valid};
 ghost use Rattle.sound.specs.Targets.{is_voiced, is_mute};
 
 use filter::filter::STAGES;
@@ -22,25 +22,13 @@ impl Params {
 
     pub const K_MAX: i32 = voice::checks::K_MAX;
 
-    // Whether energy and pitch are in 0..top and each K in low..high.
-    fn is_inside(self, top: i32, low: i32, high: i32) -> bool
-        ensures { result ≡ params_inside top low high self }
-    {
-        is_inside(self.energy, 0, top)
-            & is_inside(self.pitch, 0, top)
-            & all_inside(self.k, low, high)
-    }
-
+    // Whether each number is in its range.
     pub(crate) fn valid(self) -> bool
         ensures { result ≡ params_valid self }
     {
-        self.is_inside(Self::MAX, Self::K_MIN, Self::K_MAX)
-    }
-
-    pub(crate) fn is_zero(self) -> bool
-        ensures { result ≡ zero_params self }
-    {
-        self.is_inside(0, 0, 0)
+        is_inside(self.energy, 0, Self::MAX)
+            & is_inside(self.pitch, 0, Self::MAX)
+            & all_inside(self.k, Self::K_MIN, Self::K_MAX)
     }
 
     // Of targets: whether the pitch is not 0.

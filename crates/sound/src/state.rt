@@ -78,12 +78,7 @@ impl Sound {
     pub fn is_at_rest(self) -> bool
         ensures { result ≡ at_rest self }
     {
-        self.current.is_zero()
-            & self.target.is_zero()
-            & all_inside(self.memory, 0, 0)
-            & (self.noise == Self::NOISE_MAX)
-            & (self.pulse == 0)
-            & !self.hold
+        self == Self::at_rest()
     }
 
     // Whether each field is in its range.
