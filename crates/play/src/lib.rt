@@ -28,10 +28,10 @@ pub fn apply(action: Action, sound: Sound, voice: &[u8], pitch_bits: PitchWidth)
     match action {
         Action::Silent => silent(sound),
         Action::Rest => silent(Sound::at_rest()),
-        Action::Begin(frame, interval) => {
-            let aimed = sound.set_targets(voice, frame, pitch_bits);
-            aimed.interpolate(interval).sample(voice, pitch_bits)
-        }
+        Action::Begin(frame, interval) => sound
+            .set_targets(voice, frame, pitch_bits)
+            .interpolate(interval)
+            .sample(voice, pitch_bits),
         Action::Interpolate(interval) => sound.interpolate(interval).sample(voice, pitch_bits),
         Action::Continue => sound.sample(voice, pitch_bits),
     }
