@@ -13,7 +13,7 @@ use Rattle.sound.proofs.state.Sound.play.Goals as goal
 
 pub loop-value-init : goal.loop-value-init
 loop-value-init c =
-    filled_none (sound_step _ _) SoundRanges _ _ (ranges _ c.requires.0)
+    filled_none (sound_step _ _) SoundRanges _ _ (ranges _ c.requires)
 
 pub filtered-requires : goal.filtered-requires
 filtered-requires c =
