@@ -1,20 +1,23 @@
 -- A sample of the pieces of a sound; and the ranges that a sample and an interpolation keep.
 -- Assumes nothing.
-use mathlib.Core.Path.{◌≡◌, ap}
+use mathlib.Core.Path.{◌≡◌, ap, ◌∙◌}
 use mathlib.Core.Bool.{Bool}
 use mathlib.Core.List.{List}
-use Prim.Native.Nat.{ℕ, ◌+◌, ◌%◌, ◌≤◌}
+use Prim.Native.Nat.{ℕ, ◌+◌, ◌%◌, ◌^◌, ◌≤◌, ◌<◌}
 use native.Mathlib.Omega.{arith}
 use borrow.Author.Tests.{leb-false}
 use lib.Dec.{eqb, leb}
 use lib.IntN.{ℤ, pos, negsuc, ◌*ℤ◌}
-use lib.Signed.{shr_z}
+use lib.Signed.{mag, shr_z}
+use mir.Syntax.{w16, w32}
+use mir.Val.{to_z, of_z}
 use Rattle.base.specs.Range.{Between}
 use Rattle.base.specs.declared.units.Intervals.{Intervals}
 use Rattle.base.proofs.Booleans.{by_test}
-use Rattle.base.proofs.Range.{product}
+use Rattle.base.proofs.Range.{product, read, passed, back_at}
 use Rattle.voice.proofs.Valid.{pulse_range}
 use Rattle.filter.specs.Filter.{forward, new_memory}
+use Rattle.filter.specs.Ranges.{TenBetween}
 use Rattle.filter.proofs.Ranges.{memory_range}
 use Rattle.sound.specs.Interpolation.{divisor, keeps_current, interpolated}
 use Rattle.sound.specs.Noise.{next_noise}
@@ -67,6 +70,28 @@ module _ (P : ℕ) (file : List ℕ) (s : Sound) where
 
   pub step_is : {v : ℤ} {m : List ℤ} {n p : ℕ} → SampleParts v m n p → (renewed m n p s, v) ≡ sound_step P file s
   step_is h = ap (λ (r : Sampled). (r.sound, r.value)) (sampled_is h)
+
+  -- the calls of a sample: a number that is passed or given is read as an i32 or an i16
+  module _ (h : SoundRanges s) {voiced : Bool} {x : ℤ} (e : voiced ≡ is_voiced s.target) (is : x ≡ excitation_of P file voiced s.pulse s.noise) where
+    excited : Between 128 127 x
+    excited = rw is (excitation_range P file voiced s.pulse s.noise)
+
+    abbrev read_input : ℤ
+    read_input = input_of (to_z w32 (of_z w32 s.current.energy)) (to_z w32 (of_z w32 x))
+
+    pub filtered_takes : TenBetween 512 511 s.current.k × TenBetween 8192 8191 s.memory × Between 0 1023 (to_z w32 (of_z w32 s.current.energy)) × Between 128 127 (to_z w32 (of_z w32 x))
+    filtered_takes = (h.current.k, h.memory, passed tt h.current.energy, passed tt excited)
+
+    pub parts : {v : ℤ} {m : List ℤ} {n p : ℕ} → mag v < 2 ^ 15 → v ≡ value_of (forward s.current.k s.memory read_input) → m ≡ new_memory s.current.k s.memory read_input
+        → n ≡ next_noise s.noise → p ≡ next_pulse s.pulse (to_z w32 (of_z w32 s.current.pitch)) → SampleParts (to_z w16 (of_z w16 v)) m n p
+    parts {v} f value memory noise pulse =
+        let same : read_input ≡ input = rw (read tt h.current.energy, read tt excited, is, e) in
+        record {
+          value = back_at w16 v f ∙ rw same at value;
+          memory = rw same at memory;
+          noise = noise;
+          pulse = rw (read tt h.current.pitch) at pulse;
+        }
 
   pub sampled_ranges : SoundRanges s → SoundRanges (sampled P file s).sound
   unfolding sampled

@@ -1,6 +1,6 @@
 -- The tests of a valid sound and of the sound at rest, as ranges.
 -- Assumes nothing.
-use mathlib.Core.Path.{◌≡◌, refl, ap, ap₂, ◌∙◌}
+use mathlib.Core.Path.{◌≡◌, refl, ap, ap₂}
 use mathlib.Core.Bool.{Bool, true, not}
 use mathlib.Core.List.{List, [], ◌∷◌}
 use Prim.Native.Nat.{ℕ, zero, suc, ◌≤◌}
@@ -123,19 +123,18 @@ zeros_are (suc n) [] e h = absurd (omega arith)
 zeros_are (suc n) (z ∷ zs) e h = ap₂ (λ (a : ℤ) (l : List ℤ). a ∷ l) (zero_is (h 0)) (zeros_are n zs (omega arith) (λ (i : ℕ). h (suc i)))
 
 zero_params_lem : {v : Params} → ParamsBetween 0 0 0 v → v ≡ rest_params
-zero_params_lem {v} h =
-    ap₂ (λ (e p : ℤ). record { energy = e; pitch = p; k = v.k }) (zero_is h.energy) (zero_is h.pitch)
-    ∙ ap (λ (l : List ℤ). record { energy = pos 0; pitch = pos 0; k = l }) (zeros_are stages v.k h.k.size h.k.each)
+zero_params_lem {v} h = λ i. record { energy = zero_is h.energy i; pitch = zero_is h.pitch i; k = zeros_are stages v.k h.k.size h.k.each i }
 
 pub rest_is : (s : Sound) → at_rest s ≡ true → s ≡ rest_sound
 unfolding at_rest
 rest_is s e =
     let t = all_true (zero_params s.current ∷ zero_params s.target ∷ ten_inside (pos 0) (pos 0) s.memory ∷ eqb s.noise noise_max ∷ eqb s.pulse 0 ∷ not s.hold ∷ []) e in
     let ten = ten_tested 0 0 s.memory t.1.1.0 in
-    let still : Sound = with_target rest_params (with_current rest_params s) in
-    ap₂ (λ (c v : Params). with_target v (with_current c s))
-    (zero_params_lem (params_tested 0 0 0 s.current t.0)) (zero_params_lem (params_tested 0 0 0 s.target t.1.0))
-    ∙ ap₂ (λ (l : List ℤ) (r : ℕ). with_noise r (with_memory l still))
-    (zeros_are stages s.memory ten.size ten.each) (eqb-true s.noise noise_max t.1.1.1.0)
-    ∙ ap₂ (λ (q : ℕ) (b : Bool). with_hold b (with_pulse q (with_noise noise_max (with_memory (replicate stages (pos 0)) still))))
-    (eqb-true s.pulse 0 t.1.1.1.1.0) (not-true s.hold t.1.1.1.1.1.0)
+    λ i. record {
+      current = zero_params_lem (params_tested 0 0 0 s.current t.0) i;
+      target = zero_params_lem (params_tested 0 0 0 s.target t.1.0) i;
+      memory = zeros_are stages s.memory ten.size ten.each i;
+      noise = eqb-true s.noise noise_max t.1.1.1.0 i;
+      pulse = eqb-true s.pulse 0 t.1.1.1.1.0 i;
+      hold = not-true s.hold t.1.1.1.1.1.0 i;
+    }

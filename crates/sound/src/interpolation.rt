@@ -60,6 +60,7 @@ impl Params {
 
 impl Sound {
     // The sound after the interpolation at an interval of a frame.
+    #[tactic(auto, unfolding(crate::specs::Interpolation::interpolated))]
     pub fn interpolate(self, interval: Intervals) -> Sound
         requires { (sound_valid self ≡ true) × (interval.0 < intervals_per_frame) }
         ensures { result ≡ interpolated interval self }

@@ -16,6 +16,7 @@ fn tap(register: u32, bit: u32) -> u32
 }
 
 // The new bit, as the gate drawing has it.
+#[tactic(auto, unfolding(crate::specs::Noise::tap_chain))]
 fn new_bit(register: u32) -> u32
     ensures { result ≡ tap_chain register }
 {
@@ -23,6 +24,7 @@ fn new_bit(register: u32) -> u32
 }
 
 // The register after a sample: twice itself plus the new bit, modulo 8192.
+#[tactic(auto, using(crate::proofs::Taps::taps_agree), unfolding(crate::specs::Noise::next_noise))]
 pub(crate) fn next_noise(register: u32) -> u32
     requires { register < noise_limit }
     ensures { result ≡ next_noise register }

@@ -82,6 +82,7 @@ impl Sound {
     }
 
     // Whether each field is in its range.
+    #[tactic(auto, unfolding(crate::specs::State::sound_valid))]
     pub fn valid(self) -> bool
         ensures { result ≡ sound_valid self }
     {

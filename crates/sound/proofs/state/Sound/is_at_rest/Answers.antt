@@ -1,8 +1,7 @@
 -- The derived `==` decides equality, as `at_rest` does of the sound at rest.
-use mathlib.Core.Bool.{Bool, ◌&&◌, beq}
+use mathlib.Core.Bool.{◌&&◌}
 use mathlib.Core.Path.{◌≡◌, refl}
 use mathlib.Core.List.{List}
-use lib.Dec.{eqb}
 use lib.IntN.{ℤ}
 use lib.Pointwise.{pointwise}
 use Rattle.std.specs.Bool.{Decides}
@@ -10,9 +9,7 @@ use Rattle.std.specs.Cmp.{booleans_Decides}
 use Rattle.std.specs.Ordering.{int_eq}
 use Rattle.std.proofs.lemmas.Bool.Decides.{same_from_decides, Decides-int_eq, Decides-eqb, Decides-and, Decides-like, Decides-at}
 use Rattle.std.proofs.lemmas.Slice.Eq.{slice_eq-Decides}
-use Rattle.sound.specs.State.{rest_sound}
 use Rattle.sound.specs.declared.params.Params.{Params}
-use Rattle.sound.specs.declared.state.Sound.{Sound}
 use Rattle.sound.proofs.Laws.{rest_exactly}
 use Rattle.sound.proofs.state.Sound.is_at_rest.Goals as goal
 
