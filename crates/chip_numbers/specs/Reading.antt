@@ -1,4 +1,5 @@
--- The chip that a list of numbers says, where a reading says what each number is as a field.
+-- The chip that a list of numbers says, where a reading says what each number is as a field. The code that reads for a C caller and for a
+-- trace is held to it; what they are promised is `chip_of`, in Chips and in the Fields of trace_state.
 use Rattle.std.specs.Prelude.{Bool, cond, List, [], ◌∷◌, map, ℕ, ◌+◌, eqb, ℤ, get_or, take, drop}
 use Rattle.base.specs.Units.{samples, intervals}
 use Rattle.chip_numbers.specs.Types.{BitOrder, LeastFirst, MostFirst, Device, Tms5220, Tms5220C, Mode, Idle, Rom, Waiting, External, AddressRegister, Fifo, Port, Clock, Params, Sound, Chip}

@@ -4,6 +4,6 @@
 pub mod fields;
 pub mod from_numbers;
 pub mod list;
-pub mod putting;
+mod putting;
 pub mod reading;
 pub mod to_numbers;
