@@ -1,7 +1,7 @@
 -- Bytes, words and windows of an image, and the fields inside a window.
 -- Assumes nothing.
-use mathlib.Core.Path.{◌≡◌}
-use mathlib.Core.List.{List}
+use mathlib.Core.Path.{◌≡◌, refl, ap, ◌∙◌}
+use mathlib.Core.List.{List, [], ◌∷◌}
 use Prim.Native.Nat.{ℕ, zero, suc, ◌+◌, ◌*◌, ◌-◌, ◌/◌, ◌%◌, ◌^◌, ◌≤◌, ◌<◌}
 use native.Mathlib.Nat.{one-mul, mod-lt}
 use native.Mathlib.Numerals.{add-one}
@@ -9,10 +9,12 @@ use native.Mathlib.Omega.{arith}
 use lib.Dec.{lit<}
 use lib.ListN.{get_or}
 use lib.Pow.{pow_pos, pow_mono, shr-shr, mod-pow-add, shl_exact}
-use mir.Syntax.{w8}
+use mir.Syntax.{w8, w32}
 use mir.Val.{Fits}
 use Rattle.rom.specs.Bits.{bit, field}
-use Rattle.rom.specs.Window.{backwards_at, Window}
+use Rattle.std.specs.Int.{from_be_bytes, from_le_bytes, swap_bytes}
+use Rattle.std.proofs.lemmas.Nat.{le_bytes_4}
+use Rattle.rom.specs.Window.{Window}
 use Rattle.rom.proofs.Fields.{field_lt, field_split, field_inside}
 
 -- bit k of byte n
@@ -57,21 +59,24 @@ module _ (s : List ℕ) (bytes : (i : ℕ) → Fits w8 (get_or s i 0)) where
         byte_is (n + 3),
       )
 
-  -- four bytes read backwards are a number below 2 ^ 32
-  pub backwards_fits : (n : ℕ) {x : ℕ} → x ≡ backwards_at s n → x < 2 ^ 32
-  backwards_fits n e = omega (arith, bytes n, bytes (n + 1), bytes (n + 2), bytes (n + 3))
+  -- the same as the library has it, whose four bytes are those of s
+  pub be_word_is : (n : ℕ) (a b c d : ℕ) → a ≡ get_or s n 0 → b ≡ get_or s (n + 1) 0 → c ≡ get_or s (n + 2) 0 → d ≡ get_or s (n + 3) 0
+      → from_be_bytes w32 (a ∷ b ∷ c ∷ d ∷ []) ≡ field s (8 * n) 32
+  be_word_is n a b c d ea eb ec ed = omega (arith, word_is n, ea, eb, ec, ed)
 
-  -- and turned round they are the word
-  pub turned_is : (n : ℕ) {x : ℕ} → x ≡ backwards_at s n
-      → 16777216 * (x % 256) + 65536 * (x / 256 % 256) + 256 * (x / 65536 % 256) + x / 16777216 ≡ field s (8 * n) 32
-  turned_is n {x} e =
-      let a : x % 256 ≡ get_or s n 0 = omega (arith, bytes n) in
-      let y : x / 256 ≡ 65536 * get_or s (n + 3) 0 + 256 * get_or s (n + 2) 0 + get_or s (n + 1) 0 = omega (arith, bytes n) in
-      let b : x / 256 % 256 ≡ get_or s (n + 1) 0 = rw y (omega (arith, bytes (n + 1))) in
-      let z : x / 65536 ≡ 256 * get_or s (n + 3) 0 + get_or s (n + 2) 0 = omega (arith, bytes n, bytes (n + 1)) in
-      let c : x / 65536 % 256 ≡ get_or s (n + 2) 0 = rw z (omega (arith, bytes (n + 2))) in
-      let d : x / 16777216 ≡ get_or s (n + 3) 0 = omega (arith, bytes n, bytes (n + 1), bytes (n + 2)) in
-      rw (a, b, c, d) (word_is n)
+  -- read the other way round and swapped
+  pub swapped_is : (n : ℕ) {x : ℕ} → x ≡ from_le_bytes w32 (get_or s n 0 ∷ get_or s (n + 1) 0 ∷ get_or s (n + 2) 0 ∷ get_or s (n + 3) 0 ∷ [])
+      → swap_bytes w32 x ≡ field s (8 * n) 32
+  swapped_is n {x} e =
+      let four : List ℕ = get_or s n 0 ∷ get_or s (n + 1) 0 ∷ get_or s (n + 2) 0 ∷ get_or s (n + 3) 0 ∷ [] in
+      ap (λ (b : List ℕ). from_be_bytes w32 b) (le_bytes_4 four x refl (below n) e) ∙ be_word_is n _ _ _ _ refl refl refl refl
+    where
+      below : (n : ℕ) (i : ℕ) → get_or (get_or s n 0 ∷ get_or s (n + 1) 0 ∷ get_or s (n + 2) 0 ∷ get_or s (n + 3) 0 ∷ []) i 0 < 256
+      below n zero = omega (arith, bytes n)
+      below n (suc zero) = omega (arith, bytes (n + 1))
+      below n (suc (suc zero)) = omega (arith, bytes (n + 2))
+      below n (suc (suc (suc zero))) = omega (arith, bytes (n + 3))
+      below n (suc (suc (suc (suc i)))) = omega arith
 
 module _ (s : List ℕ) where
   -- a word fits its 32 bits

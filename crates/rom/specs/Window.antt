@@ -1,6 +1,5 @@
 -- How a frame is read: its head in one number, and its K in another. No rule of document 01.
-use Rattle.std.specs.Prelude.{◌≡◌, List, ℕ, ◌+◌, ◌*◌}
-use Rattle.base.specs.Bytes.{byte_at}
+use Rattle.std.specs.Prelude.{◌≡◌, List, ℕ}
 use Rattle.rom.specs.Bits.{field}
 
 -- the bits of a narrow window, as many as four bytes have from any bit of the first on, and of a wide one, as many as eight have
@@ -13,7 +12,3 @@ wide = 57
 -- x is the window of w bits at bit `at` of the image s
 abbrev pub Window : ℕ → List ℕ → ℕ → ℕ → Type 0
 Window w s at x = x ≡ field s at w
-
--- the number of the four bytes of s from byte n on, the last the most significant
-abbrev pub backwards_at : List ℕ → ℕ → ℕ
-backwards_at s n = 16777216 * byte_at s (n + 3) + 65536 * byte_at s (n + 2) + 256 * byte_at s (n + 1) + byte_at s n

@@ -2,7 +2,7 @@
 ghost use Rattle.std.specs.Prelude.{◌≡◌, List, ℕ, ◌+◌, ◌*◌, ◌/◌, ◌%◌, ◌≤◌, ◌<◌, ◌^◌, length};
 ghost use Rattle.base.specs.Answers.{number_of_answer};
 ghost use Rattle.rom.specs.Bits.{field, image_valid, image_fault};
-ghost use Rattle.rom.specs.Window.{narrow, wide, backwards_at, Window};
+ghost use Rattle.rom.specs.Window.{narrow, wide, Window};
 
 use base::bytes::byte_at;
 use base::refusal::Refusal;
@@ -27,36 +27,13 @@ pub fn image_fault(image: &[u8], beyond: bool) -> Result<(), Refusal>
     if beyond { Err(Refusal::Beyond) } else { Ok(()) }
 }
 
-// The number of four bytes, the first the most significant.
-fn word(a: u8, b: u8, c: u8, d: u8) -> u64
-    ensures { result ≡ 16777216 * a + 65536 * b + 256 * c + d }
-{
-    16777216 * a as u64 + 65536 * b as u64 + 256 * c as u64 + d as u64
-}
-
-// The number of the four bytes from byte n on, the last the most significant: one load for the compiler.
-fn backwards(s: &[u8], n: usize) -> u64
-    requires { n + 3 < length s.now }
-    ensures { result ≡ backwards_at s.now n }
-{
-    word(s[n + 3], s[n + 2], s[n + 1], s[n])
-}
-
-// The bytes of a number below 2^32 the other way round: one instruction for the compiler.
-fn turn(x: u64) -> u64
-    requires { x < 2 ^ 32 }
-    ensures { result ≡ 16777216 * (x % 256) + 65536 * (x / 256 % 256) + 256 * (x / 65536 % 256) + x / 16777216 }
-{
-    16777216 * (x % 256) + 65536 * (x / 256 % 256) + 256 * (x / 65536 % 256) + x / 16777216
-}
-
-// The number in the 32 bits from byte n on, where the slice has them all. Of four bytes in this order the compiler would load each
-// that the walk uses by itself.
+// The number in the 32 bits from byte n on, where the slice has them all: one load and one swap for the compiler. Of `from_be_bytes` it would
+// load each byte that the walk uses by itself.
 fn word_in(s: &[u8], n: usize) -> u64
     requires { n + 3 < length s.now }
     ensures { result ≡ field s.now (8 * n) 32 }
 {
-    turn(backwards(s, n))
+    u64::from(u32::from_le_bytes([s[n], s[n + 1], s[n + 2], s[n + 3]]).swap_bytes())
 }
 
 // The number of two words, the first the more significant.
@@ -76,12 +53,12 @@ fn be32(s: &[u8], n: usize) -> u64
     if n + 3 < s.len() {
         return word_in(s, n);
     }
-    word(
+    u64::from(u32::from_be_bytes([
         byte_at(s, n),
         byte_at(s, n + 1),
         byte_at(s, n + 2),
         byte_at(s, n + 3),
-    )
+    ]))
 }
 
 // The number in the 64 bits from byte n on.

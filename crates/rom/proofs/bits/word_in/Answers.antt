@@ -1,7 +1,7 @@
-use mathlib.Core.Path.{◌∙◌}
-use Rattle.rom.proofs.Words.{turned_is}
+use Rattle.std.proofs.Common.{◌∙◌}
+use Rattle.rom.proofs.Words.{swapped_is}
 use Rattle.rom.proofs.bits.word_in.Goals as goal
 
 pub returns : goal.returns
 returns c =
-    c.turn.ensures ∙ turned_is _ c.shared_slice_known-1.given _ c.backwards.ensures
+    c.from.ensures ∙ c.swap_bytes.ensures ∙ swapped_is _ c.type_inv.s _ c.from_le_bytes.ensures
