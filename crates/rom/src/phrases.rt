@@ -45,7 +45,10 @@ fn walk_from(image: &[u8], start: usize, pitch_bits: PitchWidth) -> Result<Exten
     loop {
         let head = head_of(narrow_at(image, at), pitch_bits);
         let window = wide_at(image, at);
-        let (frame, next) = frame_in(head, window, at, at, 8 * image.len(), pitch_bits)?;
+        let answer = frame_in(head, window, at, at, 8 * image.len(), pitch_bits);
+        let Ok((frame, next)) = answer else {
+            return Err(Refusal::NoPhrase(answer.unwrap_err()));
+        };
         at = next;
         count += 1;
         if is_stop(frame) {
