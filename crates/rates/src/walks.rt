@@ -70,14 +70,17 @@ fn walk_from(image: &[u8], start: usize, rate: FrameRate) -> Result<Extent, Refu
         let first = at + prefix;
         let head = head_of(narrow_at(image, first), PitchWidth::TMS5220);
         let window = wide_at(image, first);
-        let (frame, next) = frame_in(
+        let answer = frame_in(
             head,
             window,
             at,
             first,
             8 * image.len(),
             PitchWidth::TMS5220,
-        )?;
+        );
+        let Ok((frame, next)) = answer else {
+            return Err(Refusal::NoPhrase(answer.unwrap_err()));
+        };
         at = next;
         count += 1;
         kept += kept_by(rate, bits);
