@@ -9,7 +9,7 @@ use control::state::{Control, Mode, Port};
 use rom::bits::field_at;
 
 // The control after a taken byte, and whether the sound goes to rest.
-#[derive(Clone, Copy)]
+#[derive(Clone, Copy, Debug, PartialEq, Eq)]
 pub struct Accepted {
     pub control: Control,
     pub rests: bool,

@@ -7,7 +7,7 @@ use crate::state::Chip;
 use base::refusal::Refusal;
 
 // What a read returns: the next chip, and the byte that the bus gets.
-#[derive(Clone, Copy)]
+#[derive(Clone, Copy, Debug, PartialEq, Eq)]
 pub struct BusRead {
     pub chip: Chip,
     pub byte: u8,

@@ -52,7 +52,7 @@ impl Chip {
     }
 
     // A step for each element, once the checks have passed. What is left of an interval is played at once, and all that is left where the
-    // chip does not sound.
+    // chip does not sound: the index moves by one, by an interval's rest or to the end, which no iterator says.
     fn fill(self, image: &[u8], voice: &[u8], out: &mut [i16]) -> Chip
         requires { step_fault image.now voice.now self ≡ 0 }
         ensures value { result ≡ state_after (sample_step image.now voice.now) (length out.old) self }

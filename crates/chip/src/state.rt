@@ -11,14 +11,14 @@ use rates::rate::FrameRate;
 use sound::state::Sound;
 
 // The chip: what the host sees and steers, and the sound.
-#[derive(Clone, Copy)]
+#[derive(Clone, Copy, Debug, PartialEq, Eq)]
 pub struct Chip {
     pub control: Control,
     pub sound: Sound,
 }
 
 // The device's numbers as a value.
-#[derive(Clone, Copy)]
+#[derive(Clone, Copy, Debug, PartialEq, Eq)]
 pub struct DeviceNumbers {
     pub fifo_size: u8,
     pub low_level: u8,

@@ -14,7 +14,7 @@ use speech::advance::advance;
 use voice::checks::voice_check;
 
 // What a step returns: the next chip, the sample, what it reports, and what it gives besides.
-#[derive(Clone, Copy)]
+#[derive(Clone, Copy, Debug, PartialEq, Eq)]
 pub struct SampleStep {
     pub chip: Chip,
     pub sample: i16,

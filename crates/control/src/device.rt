@@ -4,7 +4,7 @@ ghost use Rattle.control.specs.Device.{rate_of, at_power_up, loaded_rate, device
 
 use rates::rate::FrameRate;
 
-#[derive(Clone, Copy)]
+#[derive(Clone, Copy, Debug, PartialEq, Eq)]
 pub enum Device {
     // The TMS5220 and TMS5200: no rate bits, 200 samples a frame.
     Tms5220,

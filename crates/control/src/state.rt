@@ -31,7 +31,7 @@ pub struct Port {
 }
 
 // All of the chip but its sound. Nothing in it depends on a voice file or on the sound.
-#[derive(Clone, Copy)]
+#[derive(Clone, Copy, Debug, PartialEq, Eq)]
 pub struct Control {
     pub mode: Mode,
     pub address: AddressRegister,

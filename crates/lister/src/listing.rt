@@ -101,7 +101,7 @@ pub struct Filled {
     pub left: FrameLines,
 }
 
-// Fills the buffer with frame lines, as many as it has room for.
+// Fills the buffer with frame lines, as many as it has room for. Each line says where the next frame begins.
 pub fn fill(image: &[u8], lines: FrameLines, out: &mut [u8]) -> Filled
     ensures { Fills image.now lines.bit lines.count out.new result }
 {

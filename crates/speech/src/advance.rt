@@ -21,7 +21,7 @@ use rom::frames::{Frame, PitchWidth, is_stop};
 use rom::reader::frame_from;
 
 // The control after a step, what it asks of the sound, what it reports, and what it gives besides.
-#[derive(Clone, Copy)]
+#[derive(Clone, Copy, Debug, PartialEq, Eq)]
 pub struct Moved {
     pub control: Control,
     pub action: Action,

@@ -11,6 +11,7 @@ pub fn read_all<R: Read>(reader: &mut R, buffer: &mut [u8]) -> io::Result<usize>
     ensures { IfOk result (λ n. n ≤ length buffer.old) }
 {
     let mut n = 0;
+    // The index moves by what each read gives.
     while n < buffer.len() {
         match reader.read(&mut buffer[n..])? {
             0 => break,

@@ -26,7 +26,7 @@ fn write_out(rt: &HostRuntime, lines: &mut Lines) -> io::Result<()>
     Ok(())
 }
 
-// Plays a script within the limit and writes all lines.
+// Plays a script within the limit and writes all lines. Each record says where the next begins.
 fn play_all(rt: &HostRuntime, script: &[u8], lines: &mut Lines) -> io::Result<()>
     requires { length script.now ≤ limit }
 {
