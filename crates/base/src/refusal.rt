@@ -72,8 +72,8 @@ impl Refusal {
 impl From<Shortfall> for Refusal {
     ghost from_gives = { λ short refusal. refusal ≡ NoPhrase short };
 
-    fn from(short: Shortfall) -> Refusal {
-        Refusal::NoPhrase(short)
+    fn from(cut: Shortfall) -> Refusal {
+        Refusal::NoPhrase(cut)
     }
 }
 

@@ -14,6 +14,7 @@ pub trait NumberList {
     // and how numbers are read.
     ghost reading: { Reading };
 
+    // A place is a number written out at each call, so that its bound is a clause.
     fn set_natural(&mut self, i: usize, n: u64)
         requires { i < chip_length }
         ensures { list self.new ≡ slice_set (list self.old) i (natural n) };

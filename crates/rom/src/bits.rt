@@ -7,7 +7,8 @@ ghost use Rattle.rom.specs.Window.{narrow, wide, Window};
 use base::bytes::byte_at;
 use base::refusal::Refusal;
 
-// The most bytes of an image.
+// The most bytes of an image. A lent image stays a slice, and that it has no more a clause: of a struct round it, each `ensures` would say
+// `image.entry.bytes.now`.
 pub const IMAGE_LIMIT: usize = 262144;
 
 // Whether the image is without fault 3.
@@ -44,6 +45,7 @@ fn two_words(high: u64, low: u64) -> u64
     4294967296 * high + low
 }
 
+// Bounds on a bit and a width are clauses, here and in the reader: both are made anew at each call.
 // The number in the 32 bits from byte n on, where the slice may end before them; quick where it has them all. The walk spends its
 // time here.
 fn be32(s: &[u8], n: usize) -> u64

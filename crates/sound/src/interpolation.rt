@@ -28,7 +28,8 @@ fn shift_of(interval: Intervals) -> u32
     SHIFTS[interval.count() as usize]
 }
 
-// One step of a value towards its target: the difference, divided by a power of two and rounded down, is added.
+// One step of a value towards its target: the difference, divided by a power of two and rounded down, is added. That a shift is below 4 stays a
+// clause: a type for it would be opened wherever it shifts.
 fn toward(current: i32, target: i32, shift: u32) -> i32
     requires { (Between 1023 1023 current) × (Between 1023 1023 target) × (shift < 4) }
     ensures { result ≡ toward_by (2 ^ shift) current target }

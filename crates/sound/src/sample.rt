@@ -71,7 +71,7 @@ impl Sound {
         }
     }
 
-    // A sample, with the pulses of a voice file.
+    // A sample, with the pulses of a voice file. A sound's ranges are a clause and no type: a host may hold a sound that is out of them.
     pub fn sample(self, file: &[u8], pitch_bits: PitchWidth) -> Sampled
         requires { sound_valid self ≡ true }
         ensures { result ≡ sampled pitch_bits file.now self }

@@ -170,7 +170,7 @@ fn rest(control: Control) -> Moved
     }
 }
 
-// At a frame boundary.
+// At a frame boundary. That a control is valid is a clause and no type round it: each step leaves another, and every line would open it.
 fn boundary(control: Control, image: &[u8], pitch_bits: PitchWidth) -> Moved
     requires { (length image.now ≤ image_limit) × (control_valid control ≡ true) }
     ensures { result ≡ boundary_in pitch_bits control.mode image.now control }

@@ -1,4 +1,5 @@
-// What stands in a voice file at an index: an energy, a pitch, a K value, a pulse.
+// What stands in a voice file at an index: an energy, a pitch, a K value, a pulse. File and width stay two parameters: of a struct of both,
+// each clause would say `voice.entry.file.now` and `voice.entry.pitch_bits`.
 ghost use Rattle.std.specs.Prelude.{◌≡◌};
 ghost use Rattle.voice.specs.Layout.{energy_at, pitch_at, k_at, pulse_at};
 
