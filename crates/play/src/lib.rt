@@ -1,7 +1,7 @@
 // What a sample step makes of the sound, by what the control asks of it. The width of the pitch field is a parameter.
 #![tactic(auto)]
 
-ghost use Rattle.std.specs.Prelude.{◌≡◌, true, ℕ, ◌≤◌};
+ghost use Rattle.std.specs.Prelude.{◌≡◌, true, ℕ};
 ghost use Rattle.voice.specs.Check.{voice_fault};
 ghost use Rattle.sound.specs.State.{sound_valid};
 ghost use Rattle.reports.specs.Reports.{Playable};

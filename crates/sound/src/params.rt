@@ -26,6 +26,7 @@ impl Params {
     pub(crate) fn valid(self) -> bool
         ensures { result ≡ params_valid self }
     {
+        // `&&` in place of `&` takes 49 instructions more at each public step.
         is_inside(self.energy, 0, Self::MAX)
             & is_inside(self.pitch, 0, Self::MAX)
             & all_inside(self.k, Self::K_MIN, Self::K_MAX)

@@ -86,6 +86,7 @@ impl Sound {
     pub fn valid(self) -> bool
         ensures { result ≡ sound_valid self }
     {
+        // `&` as in `Params::valid`, for each public step tests this.
         self.current.valid()
             & self.target.valid()
             & all_inside(self.memory, MEMORY_MIN, MEMORY_MAX)

@@ -1,5 +1,5 @@
 // The targets that a frame sets, and whether it holds the currents.
-ghost use Rattle.std.specs.Prelude.{◌≡◌, ◌≤◌};
+ghost use Rattle.std.specs.Prelude.{◌≡◌};
 ghost use Rattle.sound.specs.Targets.{targets_of, holds, with_targets};
 
 use crate::params::Params;
