@@ -1,33 +1,25 @@
 -- What the walk and the frame taken return, by the checks, and the phrase's part, by what the walk returns.
 -- Assumes nothing.
-use mathlib.Core.Path.{◌≡◌, refl, sym, ap, ◌∙◌}
+use mathlib.Core.Path.{◌≡◌, refl, ap, ◌∙◌}
 use mathlib.Core.List.{List}
 use Prim.Native.Nat.{ℕ, ◌+◌, ◌*◌, ◌/◌, ◌≤◌}
 use lib.Dec.{leb}
 use lib.ListN.{length}
 use Rattle.base.specs.Answers.{number_of, no_shortfall}
 use Rattle.base.specs.declared.refusal.Refusal.{Refusal}
-use Rattle.base.specs.declared.refusal.Refusal.TheVariants.{NoPhrase}
 use Rattle.base.proofs.Faults.{answered, refused_with}
 use Rattle.base.proofs.Refused.{refused_not_taken, uncut}
-use Rattle.rom.specs.Bits.{image_limit, field}
-use Rattle.rom.specs.Frames.{bit_count, numbers_of}
+use Rattle.rom.specs.Bits.{image_limit}
+use Rattle.rom.specs.Frames.{numbers_of}
 use Rattle.rom.specs.Phrases.{Walked, walk_refused, walk_refused_with, walk_answer, part_of}
-use Rattle.rom.specs.Prefix.{with_prefix}
-use Rattle.rom.specs.Reader.{FrameAnswer, frame_from}
-use Rattle.rom.specs.declared.frames.Frame.{Frame}
-use Rattle.std.specs.Prelude.{Some}
 use Rattle.rom.specs.declared.phrases.Extent.{Extent}
 use Rattle.std.specs.Prelude.{Result, Ok, Err, IfOk}
-use Rattle.base.specs.declared.refusal.Shortfall.{Shortfall}
 use Rattle.rom.proofs.Checks.{valid_length, bit_beyond}
 use Rattle.rom.proofs.ItemWalk as walk
-use Rattle.rates.specs.Rates.{prefix_bits}
 use Rattle.rates.specs.Form.{rate_form, read_item}
 use Rattle.rates.specs.Walks.{rate_fault, items_at, rated_over, rated_walk_of, rated_phrase_of, RatedTaken, no_rated, rated_answer, rated_taken_answer, only_v, rated_taken_of}
 use Rattle.rates.specs.declared.rate.FrameRate.{FrameRate}
 use Rattle.rates.proofs.Checks.{rate_uncut}
-use Rattle.rates.proofs.Rates.{read_is}
 use Rattle.rates.proofs.Theorems.{rated_accepts, rated_counts}
 
 module _ (P : ℕ) (r : FrameRate) (s : List ℕ) (a : ℕ) where
@@ -78,20 +70,7 @@ module _ (P v : ℕ) (s : List ℕ) (bit : ℕ) where
       refused_with (fault_is e) refused _ (refused_not_taken x)
       (ap (no_rated (number_of x)) (uncut x (rw e (rate_uncut s (only_v v) (leb (length s) (bit / 8))))))
 
-  module _ (e : 0 ≡ rate_fault s (only_v v) (leb (length s) (bit / 8))) {p q : ℕ} {t : FrameAnswer} (ep : p ≡ prefix_bits (only_v v)) (eq : q ≡ field s bit p)
-      (ea : t ≡ frame_from P s bit (bit + p)) where
-    -- what the reader returns
-    abbrev read : FrameAnswer → RatedTaken
-    read t = rated_answer (rate_form (only_v v) P) (with_prefix q t)
-
-    answer : rated_answer (rate_form (only_v v) P) (with_prefix q t) ≡ rated_answer (rate_form (only_v v) P) (read_item (rate_form (only_v v) P) s bit)
-    answer = ap (rated_answer (rate_form (only_v v) P)) (sym (read_is P (only_v v) s bit ep eq ea))
-
-    pub take_cut : (y : Shortfall) → t ≡ Err y → rated_taken_answer (Err (NoPhrase y)) ≡ rated_taken_of P v s bit
-    unfolding rated_taken_of
-    take_cut y c = answered (fault_is e) refused _ refl (ap read (sym c) ∙ answer)
-
-    pub take_whole : {f : Frame} {next w : ℕ} → t ≡ Ok (f, next) → w ≡ p + bit_count P f
-        → record { refusal = 0; rate = q; frame = Some f; bits = w; short = no_shortfall } ≡ rated_taken_of P v s bit
-    unfolding rated_taken_of
-    take_whole {f} {next} c b = answered (fault_is e) refused _ refl (rw (b, ep) (ap read (sym c) ∙ answer))
+  pub take_answered : {t : RatedTaken} → 0 ≡ rate_fault s (only_v v) (leb (length s) (bit / 8))
+      → t ≡ rated_answer (rate_form (only_v v) P) (read_item (rate_form (only_v v) P) s bit) → t ≡ rated_taken_of P v s bit
+  unfolding rated_taken_of
+  take_answered e a = answered (fault_is e) refused _ refl a

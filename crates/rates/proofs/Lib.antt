@@ -2,6 +2,5 @@ pub mod Rates
 pub mod Plain
 pub mod PlainRate
 pub mod Checks
-pub mod Walking
 pub mod Theorems
 pub mod Answers

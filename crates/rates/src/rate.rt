@@ -1,8 +1,14 @@
 // The frame rate: what Load Frame Rate sets.
-ghost use Rattle.std.specs.Prelude.{◌≡◌};
+ghost use Rattle.std.specs.Prelude.{◌≡◌, ◌≤◌, eqb};
+ghost use Rattle.std.proofs.Common.{rules};
+ghost use Rattle.base.proofs.Booleans.{by_test};
+ghost use Rattle.rom.specs.Frames.{pitch_width};
+ghost use Rattle.rates.specs.Form.{rate_form};
 ghost use Rattle.rates.specs.Rates.{power_up_rate, rate_valid, rate_of_byte, prefix_bits, skipped_with};
 
 use base::units::Intervals;
+use rom::form::FrameForm;
+use rom::frames::PitchWidth;
 
 // The frame mode v and the rate rr, as in the byte x0x0xvrr.
 #[derive(Clone, Copy, Debug, PartialEq, Eq)]
@@ -47,5 +53,28 @@ impl FrameRate {
     {
         let rate = if self.v == 0 { self.rr } else { bits };
         Intervals::of(2 * u64::from(rate % 4))
+    }
+}
+
+impl FrameForm for FrameRate {
+    ghost form = { λ r. rate_form r pitch_width };
+
+    ghost prefix_fits = { λ r. by_test (λ n. n ≤ 8) (eqb r.v 0) (λ _. Prim.search rules) (λ _. Prim.search rules) };
+
+    ghost keeps_some = { λ r q. Prim.search rules };
+
+    #[inline(always)]
+    fn prefix(self) -> usize {
+        self.prefix_bits()
+    }
+
+    #[inline(always)]
+    fn pitch(self) -> PitchWidth {
+        PitchWidth::TMS5220
+    }
+
+    #[inline(always)]
+    fn skipped(self, prefix: u8) -> Intervals {
+        self.skips(prefix)
     }
 }

@@ -3,7 +3,6 @@ pub mod Words
 pub mod Checks
 pub mod KindLaws
 pub mod Decoding
-pub mod Taking
 pub mod Encoding
 pub mod AllBits
 pub mod CentralLaw
@@ -11,7 +10,9 @@ pub mod ItemLaws
 pub mod ItemWalk
 pub mod FrameCode
 pub mod WholeFrame
-pub mod Walking
 pub mod Theorems
 pub mod Prefixed
+pub mod Walking
+pub mod Plain
+pub mod Taking
 pub mod Shortfalls

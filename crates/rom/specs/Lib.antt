@@ -5,4 +5,5 @@ pub mod Reader
 pub mod Items
 pub mod Phrases
 pub mod Prefix
+pub mod Form
 pub mod Theorems

@@ -2,6 +2,7 @@
 #![tactic(auto)]
 
 pub mod bits;
+pub mod form;
 pub mod frames;
 pub mod head;
 pub mod phrases;

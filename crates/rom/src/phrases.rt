@@ -1,11 +1,14 @@
 // The phrase walk over an image: its numbers, and the part of the image that the phrase takes.
-ghost use Rattle.std.specs.Prelude.{◌≡◌, ◌+◌, ◌*◌, ◌≤◌, length, IfOk, Ok};
+ghost use Rattle.std.specs.Prelude.{◌≡◌, ◌+◌, ◌*◌, ◌-◌, ◌≤◌, length, IfOk, Ok};
 ghost use Rattle.rom.specs.Bits.{image_limit};
 ghost use Rattle.rom.specs.Frames.{pitch_width};
-ghost use Rattle.rom.specs.Phrases.{walk_answer, walk_accepted, frames_from, walked_over, walk_of, part_of, phrase_of};
+ghost use Rattle.rom.specs.Items.{items_from};
+ghost use Rattle.rom.specs.Form.{item_code, read_item, rated_accepted, rated_over};
+ghost use Rattle.rom.specs.Phrases.{walk_answer, walk_of, part_of, phrase_of};
 
-use crate::bits::{image_fault, narrow_at, wide_at};
-use crate::frames::{PitchWidth, is_stop};
+use crate::bits::{field_at, image_fault, narrow_at, wide_at};
+use crate::form::{FrameForm, Plain};
+use crate::frames::is_stop;
 use crate::head::head_of;
 use crate::reader::frame_in;
 use base::refusal::Refusal;
@@ -20,39 +23,42 @@ pub struct Extent {
     pub samples: Samples,
 }
 
-fn extent_of(bits: usize, count: u32) -> Extent
-    ensures { walk_answer (Ok result) ≡ walk_accepted bits count }
+fn extent_of(bits: usize, count: u32, skipped: u64) -> Extent
+    requires { skipped ≤ 8 * count }
+    ensures { walk_answer (Ok result) ≡ rated_accepted bits count (8 * count - skipped) }
 {
     let frames = Frames::of(count);
-    let intervals = frames.intervals();
-    let samples = intervals.samples();
+    let intervals = Intervals::of(frames.intervals().count() - skipped);
     Extent {
         bits,
         frames,
         intervals,
-        samples,
+        samples: intervals.samples(),
     }
 }
 
-// The walk from bit `start` on, through the first stop, of an image that has passed the checks. The frame is `frame_at`, written out: the
-// compiler takes each of the calls into this loop, but not all in one, and leaves out the wide window, whose K nobody asks for.
-fn walk_from(image: &[u8], start: usize, pitch_bits: PitchWidth) -> Result<Extent, Refusal>
+// The walk from bit `start` on, through the first stop, of an image that has passed the checks. The frame is `frame_from`, written out, so
+// that each of the calls comes into this loop, and the wide window, whose K nobody asks for, is left out of it.
+pub fn walk_from<F: FrameForm>(image: &[u8], start: usize, form: F) -> Result<Extent, Refusal>
     requires { (length image.now ≤ image_limit) × (start ≤ 8 * length image.now) }
-    ensures { walk_answer result ≡ walked_over pitch_bits image.now start (frames_from pitch_bits image.now start (8 * length image.now)) }
+    ensures { walk_answer result ≡ rated_over (F.form form) image.now start (items_from (item_code (F.form form)) (read_item (F.form form) image.now) start (8 * length image.now)) }
 {
+    let prefix = form.prefix();
+    let pitch = form.pitch();
     let mut at = start;
     let mut count: u32 = 0;
+    let mut skipped: u64 = 0;
     loop {
-        let head = head_of(narrow_at(image, at), pitch_bits);
-        let window = wide_at(image, at);
-        let answer = frame_in(head, window, at, at, 8 * image.len(), pitch_bits);
-        let Ok((frame, next)) = answer else {
-            return Err(Refusal::NoPhrase(answer.unwrap_err()));
-        };
+        let bits = field_at(image, at, prefix);
+        let first = at + prefix;
+        let head = head_of(narrow_at(image, first), pitch);
+        let window = wide_at(image, first);
+        let (frame, next) = frame_in(head, window, at, first, 8 * image.len(), pitch)?;
         at = next;
         count += 1;
+        skipped += form.skipped(bits).count();
         if is_stop(frame) {
-            return Ok(extent_of(at - start, count));
+            return Ok(extent_of(at - start, count, skipped));
         }
     }
 }
@@ -62,7 +68,7 @@ pub fn walk(image: &[u8], address: usize) -> Result<Extent, Refusal>
     ensures { walk_answer result ≡ walk_of pitch_width image.now address }
 {
     image_fault(image, image.len() <= address)?;
-    walk_from(image, 8 * address, PitchWidth::TMS5220)
+    walk_from(image, 8 * address, Plain)
 }
 
 // The part of an image from a byte address on that a phrase takes, by its walk; empty where the walk is refused.

@@ -3,9 +3,11 @@
 ghost use Rattle.std.specs.Prelude.{◌≡◌, List, ℕ, ◌+◌, ◌*◌, ◌-◌, ◌≤◌, ◌<◌, ◌^◌, length, IfOk};
 ghost use Rattle.rom.specs.Window.{wide, Window};
 ghost use Rattle.rom.specs.Frames.{pitch_width, numbers_of};
+ghost use Rattle.rom.specs.Form.{read_item, rated_answer, rated_taken_answer};
 ghost use Rattle.rom.specs.Reader.{head_at, frame_of, counted_to, cut_at, frame_from, frame_at, taken_answer, frame_taken_of};
 
-use crate::bits::{WIDE, image_fault, narrow_at, part, wide_at};
+use crate::bits::{WIDE, field_at, image_fault, narrow_at, part, wide_at};
+use crate::form::{FrameForm, Plain};
 use crate::frames::{Frame, PitchWidth};
 use crate::head::{Head, Kind, head_of, kind_bits, kind_of};
 use base::refusal::{Refusal, Shortfall};
@@ -76,8 +78,8 @@ fn frame_of(kind: Kind, head: Head, window: u64, pitch_bits: PitchWidth) -> Fram
 }
 
 // The frame at bit `at` with its head and its wide window, and the bit after it, where the slice has `end` bits; with its prefix it
-// begins at bit `begun`. The head is a number of its own so that a caller which asks for no K, as the walk, costs no more than the head: taken
-// into each caller, it leaves out what that one does not ask for.
+// begins at bit `begun`. The head is a number of its own so that a caller which asks for no K, as the walk, costs no more than the head;
+// out of line it would cost the walk five times as much.
 #[inline(always)]
 pub fn frame_in(
     head: Head,
@@ -128,6 +130,21 @@ pub struct Taken {
     pub bits: usize,
 }
 
+// The frame at a bit of an image, with its prefix, where the bits have both.
+pub fn taken_from<F: FrameForm>(image: &[u8], bit: usize, form: F) -> Result<Taken, Refusal>
+    requires { (bit < 2 ^ 32 - 72) × (length image.now < 2 ^ 32) }
+    ensures { rated_taken_answer result ≡ rated_answer (F.form form) (read_item (F.form form) image.now bit) }
+{
+    let prefix = form.prefix();
+    let rate = field_at(image, bit, prefix);
+    let (frame, next) = frame_from(image, bit, bit + prefix, form.pitch())?;
+    Ok(Taken {
+        rate,
+        frame,
+        bits: next - bit,
+    })
+}
+
 // Operation: the frame at a bit of an image; and its 13 numbers are those of the definition's frame.
 pub fn frame_taken(image: &[u8], bit: usize) -> Result<Taken, Refusal>
     ensures value { taken_answer result ≡ frame_taken_of pitch_width image.now bit }
@@ -135,10 +152,5 @@ pub fn frame_taken(image: &[u8], bit: usize) -> Result<Taken, Refusal>
     ensures frame_numbers { numbers_of (taken_answer result).frame ≡ numbers_of (frame_taken_of pitch_width image.now bit).frame }
 {
     image_fault(image, image.len() <= bit / 8)?;
-    let (frame, next) = frame_at(image, bit, PitchWidth::TMS5220)?;
-    Ok(Taken {
-        rate: 0,
-        frame,
-        bits: next - bit,
-    })
+    taken_from(image, bit, Plain)
 }

@@ -1,6 +1,7 @@
 use mathlib.Core.Path.{◌∙◌, ap}
 use Rattle.base.proofs.Refused.{passed_on}
 use Rattle.rom.specs.Phrases.{walk_answer}
+use Rattle.rom.proofs.Plain.{plain_walked}
 use Rattle.rom.proofs.Theorems.{walk_refused_lem, walk_answered}
 use Rattle.rom.proofs.phrases.walk.Goals as goal
 
@@ -10,4 +11,4 @@ returns-in_err-image_fault c =
 
 pub returns : goal.returns
 returns c =
-    walk_answered _ _ _ c.in_ok-image_fault.ensures c.walk_from.ensures
+    walk_answered _ _ _ c.in_ok-image_fault.ensures (c.walk_from.ensures ∙ plain_walked _ _ _)
