@@ -1,4 +1,4 @@
-// What an image and a voice file hold, without a chip.
+// What an image and a voice file hold, without a chip. C has a function for each device, and refusals as numbers.
 ghost use Rattle.std.specs.Prelude.{◌≡◌};
 ghost use Rattle.rom.specs.Frames.{pitch_width};
 ghost use Rattle.rom.specs.Phrases.{walk_answer, walk_of};

@@ -54,6 +54,7 @@ impl Chip {
 
     pub const INTERVALS_PER_FRAME: u64 = Frames::INTERVALS;
 
+    // The four power-ups are operations of documents 01 and 02, each a line over `power_up_of`.
     // Operation: power-up of a TMS5220 or TMS5200. The FIFO's bits leave each byte least significant first.
     pub fn power_up() -> Chip
         ensures { result ≡ power_up }

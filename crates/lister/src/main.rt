@@ -18,7 +18,7 @@ use std::io;
 use std::io::{ErrorKind, Write};
 use stdin::read_all;
 
-// Writes frame lines.
+// Writes frame lines. Each turn goes on with what the buffer had no room for.
 fn write_lines(rt: &HostRuntime, image: &[u8], lines: FrameLines) -> io::Result<()> {
     let mut out = [0u8; 65536];
     let mut left = lines;

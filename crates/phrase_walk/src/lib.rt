@@ -39,7 +39,7 @@ pub fn walk_phrase<'a>(image: &'a [u8], address: usize) -> Result<Phrase<'a>, Re
     Ok(found(image, address, walk(image, address)?))
 }
 
-// Operation: the walk from a byte address, told v and rr.
+// Operation: the walk from a byte address, told v and rr. Documents 01 and 02 name the two; what they share is `found`.
 pub fn walk_phrase_rated<'a>(
     image: &'a [u8],
     address: usize,

@@ -1,4 +1,4 @@
-// The walk, its part and the frame taken, for frames at a frame rate.
+// The walk, its part and the frame taken, for frames at a frame rate: the operations that document 02 adds, over those of `rom`.
 ghost use Rattle.std.specs.Prelude.{◌≡◌};
 ghost use Rattle.base.specs.Answers.{number_of_answer};
 ghost use Rattle.rom.specs.Frames.{pitch_width, numbers_of};

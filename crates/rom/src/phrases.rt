@@ -38,7 +38,8 @@ fn extent_of(bits: usize, count: u32, skipped: u64) -> Extent
 }
 
 // The walk from bit `start` on, through the first stop, of an image that has passed the checks. The frame is `frame_from`, written out, so
-// that each of the calls comes into this loop, and the wide window, whose K nobody asks for, is left out of it.
+// that each of the calls comes into this loop, and the wide window, whose K nobody asks for, is left out of it. The position moves by each
+// frame's bits. With `?` in place of `let .. else` a frame costs five times as much.
 pub fn walk_from<F: FrameForm>(image: &[u8], start: usize, form: F) -> Result<Extent, Refusal>
     requires { (length image.now ≤ image_limit) × (start ≤ 8 * length image.now) }
     ensures { walk_answer result ≡ rated_over (F.form form) image.now start (items_from (item_code (F.form form)) (read_item (F.form form) image.now) start (8 * length image.now)) }

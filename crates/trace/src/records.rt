@@ -29,7 +29,7 @@ fn state_at(script: &[u8], at: usize) -> Numbers
     array::from_fn(|i| le_i64(script, at + 8 * i))
 }
 
-// `O`: power-up of a device with an order of the FIFO's bits; 1 is the TMS5220C, and most significant first.
+// `O`: power-up of a device with an order of the FIFO's bits, by the script's bytes; 1 is the TMS5220C, and most significant first.
 fn power_up(device: u8, order: u8) -> Chip {
     let order = match order {
         0 => BitOrder::LeastFirst,

@@ -146,7 +146,7 @@ impl Lines {
         self.walked_line('B', answer, part);
     }
 
-    // The answer to a record that asks nothing of a chip, `I`, `V`, `F` or `A`, with its u32.
+    // The answer to a record that asks nothing of a chip, by its letter in the script, `I`, `V`, `F` or `A`, with its u32.
     pub fn told_line(&mut self, letter: u8, n: usize, image: &[u8], voice: &[u8]) {
         match letter {
             b'I' => self.image_line(n),

@@ -50,7 +50,8 @@ pub fn part(script: &[u8], from: usize, end: usize) -> &[u8]
     script.get(from..end).unwrap_or_default()
 }
 
-// How many bytes the body after a letter has, whose first u32 is `count`; none where the letter begins no record.
+// How many bytes the body after a letter has, whose first u32 is `count`; none where the letter begins no record. A letter is a byte of the script:
+// this match is the table of docs/TRACE.md, of which an enum would be a second one.
 #[tactic(auto, unfolding(crate::specs::Script::body_of))]
 fn body_of(letter: u8, count: usize) -> Option<usize>
     requires { count < 2 ^ 32 }

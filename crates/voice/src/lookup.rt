@@ -7,6 +7,7 @@ use crate::layout::{Table, count_at, entry_at, k_begin, signed_byte, signed_word
 use base::bytes::byte_at;
 use rom::frames::PitchWidth;
 
+// Energy and pitch differ by their table, and so do their definitions: a line each.
 pub fn energy(file: &[u8], index: u8, pitch_bits: PitchWidth) -> i32
     ensures { result ≡ energy_at pitch_bits file.now index }
 {
