@@ -53,8 +53,18 @@ fn be32(s: &[u8], n: usize) -> u64
     ensures { result ≡ field s.now (8 * n) 32 }
 {
     if n + 3 < s.len() {
-        return word_in(s, n);
+        word_in(s, n)
+    } else {
+        be32_at_end(s, n)
     }
+}
+
+// The same near the slice's end. Out of line, it takes no instruction of the walk's loop.
+#[inline(never)]
+fn be32_at_end(s: &[u8], n: usize) -> u64
+    requires { n ≤ 2 ^ 33 }
+    ensures { result ≡ field s.now (8 * n) 32 }
+{
     u64::from(u32::from_be_bytes([
         byte_at(s, n),
         byte_at(s, n + 1),

@@ -1,6 +1,6 @@
 use Rattle.std.proofs.Common.{◌∙◌}
 use Rattle.rom.proofs.Words.{be_word_is}
-use Rattle.rom.proofs.bits.be32.Goals as goal
+use Rattle.rom.proofs.bits.be32_at_end.Goals as goal
 
 pub returns : goal.returns
 returns c =
