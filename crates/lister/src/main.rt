@@ -53,7 +53,7 @@ fn list(rt: &HostRuntime, asked: Asked) -> io::Result<()>
     let mut image = room();
     let n = match read_all(&mut rt.stdin(), &mut image[..asked.most + 1]) {
         Ok(n) => n,
-        Err(error) => return eprintln!(rt; "standard input: {error}"),
+        Err(failed) => return eprintln!(rt; "standard input: {}", failed.error),
     };
     match write_listing(rt, &image[..n], asked) {
         Err(error) if error.kind() != ErrorKind::BrokenPipe => {

@@ -28,6 +28,14 @@ impl PitchWidth {
     // Of the TMS5220 and TMS5200.
     pub const TMS5220: PitchWidth = PitchWidth { bits: 6 };
 
+    // Of another device.
+    pub fn new(bits: usize) -> PitchWidth
+        requires { bits ≤ 8 }
+        ensures { result ≡ bits }
+    {
+        PitchWidth { bits }
+    }
+
     pub fn bits(self) -> usize
         ensures value { result ≡ self }
         ensures upper_bound { result ≤ 8 }

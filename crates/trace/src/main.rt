@@ -68,7 +68,7 @@ fn main(rt: HostRuntime) -> io::Result<()> {
     let mut space = room();
     let n = match read_all(&mut rt.stdin(), &mut space) {
         Ok(n) => n,
-        Err(error) => return eprintln!(rt; "standard input: {error}"),
+        Err(failed) => return eprintln!(rt; "standard input: {}", failed.error),
     };
     match play_script(&rt, &space[..n]) {
         Err(error) if error.kind() != ErrorKind::BrokenPipe => {
