@@ -3,9 +3,6 @@ ghost use Rattle.std.specs.Prelude.{◌≡◌};
 ghost use Rattle.base.specs.Answers.{number_of, number_of_answer, no_shortfall, shortfall_of};
 ghost use Rattle.base.specs.declared.refusal.Refusal.TheVariants.{NoPhrase};
 
-use std::error::Error;
-use std::fmt;
-
 // How short the bits are: where the cut frame begins, with its prefix if it has one, and how many bits it lacks.
 #[derive(Clone, Copy, Debug, PartialEq, Eq)]
 pub struct Shortfall {
@@ -76,14 +73,6 @@ impl From<Shortfall> for Refusal {
         Refusal::NoPhrase(cut)
     }
 }
-
-impl fmt::Display for Refusal {
-    fn fmt<W: fmt::Write>(&self, f: &mut fmt::Formatter<W>) -> fmt::Result {
-        write!(f, "refused {}", self.number())
-    }
-}
-
-impl Error for Refusal {}
 
 // The number of an answer: 0 where the call is taken.
 pub fn number_of<T>(answer: &Result<T, Refusal>) -> u8

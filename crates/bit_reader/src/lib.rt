@@ -14,7 +14,7 @@ use rom::head::Head;
 use rom::reader::frame_at;
 
 // The lent image, and the bit that the reader has come to.
-#[derive(Clone, Copy)]
+#[derive(Clone, Copy, Debug)]
 pub struct Reader<'a> {
     pub image: &'a [u8],
     pub at: usize,

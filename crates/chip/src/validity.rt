@@ -1,4 +1,4 @@
-// The ranges of a chip's fields: 4 STATE is given where one fails.
+// The ranges of a chip's fields: `Refusal::State` is given where one fails.
 ghost use Rattle.std.specs.Prelude.{◌≡◌};
 ghost use Rattle.chip.specs.Validity.{valid};
 

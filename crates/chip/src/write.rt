@@ -24,8 +24,11 @@ impl Chip {
         if self.control.waits(command) {
             return Err(Refusal::Wait);
         }
-        let position = self.control.address.position;
-        if self.control.mode.beyond(image, position, command) {
+        if self
+            .control
+            .mode
+            .beyond(image, self.control.address.position, command)
+        {
             return Err(Refusal::Beyond);
         }
         Ok(())

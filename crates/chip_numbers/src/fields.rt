@@ -1,4 +1,4 @@
-// The numbers of a chip's parts, in the order in which a trace prints them.
+// The numbers of a chip's parts, in the order in which a trace prints them. A mode's and an order's are those of their enum, which `as` gives.
 ghost use Rattle.std.specs.Prelude.{◌≡◌};
 ghost use Rattle.chip_numbers.specs.Fields.{control_numbers, clock_numbers, later_numbers};
 

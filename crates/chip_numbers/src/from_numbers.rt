@@ -27,7 +27,7 @@ const CLOCK_LIMITS: [i32; 5] = [BIT, ANY, ANY, ANY, ANY];
 // And each of the last six.
 const LATER_LIMITS: [i32; 6] = [BIT, BYTE, BYTE, BIT, BIT, ANY];
 
-// A level that no valid chip has.
+// A level that no valid chip has. No `Option`: `chip_of` says a chip of any numbers.
 const NO_LEVEL: u8 = 255;
 
 // Whether the numbers from number `at` on are in 0 to their limits.

@@ -84,10 +84,7 @@ impl Mode {
         requires { (position ≤ position_limit) × (length image.now ≤ image_limit) }
         ensures { result ≡ beyond self image.now position command }
     {
-        match self {
-            Mode::Idle => command.beyond(image, position),
-            Mode::Rom | Mode::Waiting | Mode::External => false,
-        }
+        self.is_idle() && command.beyond(image, position)
     }
 }
 

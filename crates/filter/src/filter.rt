@@ -23,7 +23,7 @@ const ENDS: [i32; 2] = [MEMORY_MIN, MEMORY_MAX];
 // More than any sum that is saturated.
 const SUM_LIMIT: i32 = 8388608;
 
-// A forward value or a memory, in their range.
+// A forward value or a memory, in their range. Nobody compares or prints it.
 #[derive(Clone, Copy)]
 struct Held {
     value: i32,
@@ -44,7 +44,7 @@ fn saturate(z: i32) -> Held
     Held { value: ENDS[end] }
 }
 
-// A stage's coefficient, in its range, and its old memory.
+// A stage's coefficient, in its range, and its old memory. Nobody compares or prints it.
 #[derive(Clone, Copy)]
 struct Stage {
     k: i32,
@@ -95,7 +95,8 @@ fn stage_at(k: &[i32; STAGES], memory: &mut [i32; STAGES], above: Held, i: usize
     forward
 }
 
-// The lowest `left` stages, from the forward value of the stage above them. Below stage 1, forward value 1 is new memory 1.
+// The lowest `left` stages, from the forward value of the stage above them. Below stage 1, forward value 1 is new memory 1. A recursion, as
+// `lowest_forward` is one: a loop's invariant would say it again.
 #[tactic(auto, using(crate::proofs::Lattice::lowest_more, crate::proofs::Ranges::stage_range))]
 fn stages(k: &[i32; STAGES], memory: &mut [i32; STAGES], above: Held, left: usize) -> Held
     requires { (TenBetween 512 511 k.now) × (TenBetween 8192 8191 memory.old) × (left ≤ stages) }

@@ -94,7 +94,7 @@ fn put(out: &mut [u8], at: usize, t: &Text) -> usize
     end
 }
 
-// How much of the buffer is filled, and the frame lines that are left to list.
+// How much of the buffer, which the caller lends, is filled, as `Read::read` tells it; and the frame lines that are left to list.
 #[derive(Clone, Copy, Debug, PartialEq, Eq)]
 pub struct Filled {
     pub used: usize,

@@ -38,7 +38,7 @@ fn write_listing(rt: &HostRuntime, image: &[u8], asked: Asked) -> io::Result<()>
 }
 
 // Room for one byte more than an image may have, so that a longer input is noticed. A function of its own, for the proof of a slice of it
-// does not close where an array of so many elements is written in place.
+// does not close where an array of so many elements is written in place; nor does the trace's where both call one told the size.
 fn room() -> [u8; 262145]
     ensures { 262145 ≡ length result }
 {

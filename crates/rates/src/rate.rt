@@ -10,7 +10,7 @@ use base::units::Intervals;
 use rom::form::FrameForm;
 use rom::frames::PitchWidth;
 
-// The frame mode v and the rate rr, as in the byte x0x0xvrr.
+// The frame mode v and the rate rr, as in the byte x0x0xvrr. Numbers and no enum: a host may hold and ask for any, and others are refused with 4.
 #[derive(Clone, Copy, Debug, PartialEq, Eq)]
 pub struct FrameRate {
     pub v: u8,

@@ -46,6 +46,7 @@ fn two_words(high: u64, low: u64) -> u64
 }
 
 // Bounds on a bit and a width are clauses, here and in the reader: both are made anew at each call.
+
 // The number in the 32 bits from byte n on, where the slice may end before them; quick where it has them all. The walk spends its
 // time here.
 fn be32(s: &[u8], n: usize) -> u64

@@ -6,7 +6,7 @@ ghost use Rattle.rom.specs.Reader.{head_at, kind_of, kind_bits};
 use crate::bits::{NARROW, part};
 use crate::frames::PitchWidth;
 
-// The fields that give the kind of a frame.
+// The fields that give the kind of a frame, each a number, as `head_at` reads them.
 #[derive(Clone, Copy, Debug, PartialEq, Eq)]
 pub struct Head {
     pub energy: u8,

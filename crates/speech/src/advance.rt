@@ -151,8 +151,14 @@ fn from_fifo(control: Control, pitch_bits: PitchWidth) -> Moved
     let stop = is_stop(frame);
     if stop || next < 8 * level {
         let details = Details::of_frame(bits, thrown(stop, 8 * level - next));
-        let position = control.address.position;
-        begin_frame(control, bits, frame, position, held.use_up(next), details)
+        begin_frame(
+            control,
+            bits,
+            frame,
+            control.address.position,
+            held.use_up(next),
+            details,
+        )
     } else {
         fifo_out(control, 0)
     }

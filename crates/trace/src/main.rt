@@ -56,7 +56,7 @@ fn play_script(rt: &HostRuntime, script: &[u8]) -> io::Result<()> {
 }
 
 // Room for one byte more than a script may have, so that a longer one is seen. A function of its own, for the checker runs out of stack
-// where an array of so many elements is written in place.
+// where an array of so many elements is written in place; so it does where the lister and this call one told the size.
 fn room() -> [u8; 1048577]
     ensures { 1048577 ≡ length result }
 {

@@ -14,7 +14,7 @@ use trace_state::from_list::state_of;
 use trace_state::numbers::Numbers;
 use trace_state::to_list::state_numbers;
 
-// The image and the voice file, which are parts of the script, and the chip.
+// The image and the voice file, which are parts of the script, and the chip. Nobody compares or prints it.
 #[derive(Clone, Copy)]
 pub struct Player<'a> {
     image: &'a [u8],
@@ -29,7 +29,8 @@ fn state_at(script: &[u8], at: usize) -> Numbers
     array::from_fn(|i| le_i64(script, at + 8 * i))
 }
 
-// `O`: power-up of a device with an order of the FIFO's bits, by the script's bytes; 1 is the TMS5220C, and most significant first.
+// `O`: power-up of a device with an order of the FIFO's bits, by the script's bytes, which docs/TRACE.md
+// numbers; 1 is the TMS5220C, and most significant first.
 fn power_up(device: u8, order: u8) -> Chip {
     let order = match order {
         0 => BitOrder::LeastFirst,

@@ -28,7 +28,7 @@ pub struct Lines {
     text: ArrayString<65536>,
 }
 
-// What they are in a contract: the bytes.
+// What they are in a contract: the bytes, of which `as_bytes` says how many there may be.
 impl Model for Lines {
     ghost use Rattle.std.specs.Prelude.{ℕ, List};
 
@@ -147,6 +147,7 @@ impl Lines {
     }
 
     // The answer to a record that asks nothing of a chip, by its letter in the script, `I`, `V`, `F` or `A`, with its u32.
+    // A byte of the script: docs/TRACE.md is the table of them.
     pub fn told_line(&mut self, letter: u8, n: usize, image: &[u8], voice: &[u8]) {
         match letter {
             b'I' => self.image_line(n),

@@ -77,7 +77,7 @@ fn entry_valid(table: Table, index: u16, word: u16) -> bool
     }
 }
 
-// A file that has its tables whole, and the width of its device's pitch field.
+// A file that has its tables whole, and the width of its device's pitch field. Nobody compares or prints it.
 #[derive(Clone, Copy)]
 struct Tables<'a> {
     file: &'a [u8],

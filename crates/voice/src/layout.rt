@@ -5,7 +5,7 @@ ghost use Rattle.voice.specs.Layout.{pitches, be16, signed_byte, signed_word, k_
 use base::bytes::byte_at;
 use rom::frames::PitchWidth;
 
-// The tables of words, in the file's order.
+// The tables of words, in the file's order. Nobody compares or prints them.
 #[derive(Clone, Copy)]
 pub(crate) enum Table {
     Energy,
