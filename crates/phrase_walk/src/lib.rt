@@ -27,7 +27,7 @@ fn found<'a>(image: &'a [u8], address: usize, extent: Extent) -> Phrase<'a>
     ensures { (result.extent ≡ extent) × (result.part.now ≡ part_of image.now address TAKEN extent.bits) }
 {
     Phrase {
-        part: part_of(image, address, Ok(extent)),
+        part: part_of(image, address, 0, extent.bits),
         extent,
     }
 }

@@ -8,7 +8,7 @@ ghost use Rattle.rates.specs.Walks.{rate_fault, rated_walk_of, rated_phrase_of, 
 use crate::rate::FrameRate;
 use base::refusal::Refusal;
 use rom::bits::image_valid;
-use rom::phrases::{Extent, part_of, walk_from};
+use rom::phrases::{Extent, part_walked, walk_from};
 use rom::reader::{Taken, taken_from};
 
 // The fault of a call told a rate: 3, then 4 where the rate is out of range, then 2 where the caller has found that what is asked for
@@ -40,7 +40,7 @@ pub fn walk(image: &[u8], address: usize, rate: FrameRate) -> Result<Extent, Ref
 pub fn phrase(image: &[u8], address: usize, rate: FrameRate) -> &[u8]
     ensures { result.now ≡ rated_phrase_of pitch_width rate image.now address }
 {
-    part_of(image, address, walk(image, address, rate))
+    part_walked(image, address, walk(image, address, rate))
 }
 
 // Operation: the frame at a bit of an image, told v; and its 13 numbers are those of the definition's frame.

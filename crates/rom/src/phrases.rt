@@ -72,13 +72,26 @@ pub fn walk(image: &[u8], address: usize) -> Result<Extent, Refusal>
     walk_from(image, 8 * address, Plain)
 }
 
-// The part of an image from a byte address on that a phrase takes, by its walk; empty where the walk is refused.
-pub fn part_of(image: &[u8], address: usize, walked: Result<Extent, Refusal>) -> &[u8]
+// The part of an image from a byte address on that a phrase of `bits` bits takes, by the number of its walk. A number, for its contract takes
+// any.
+pub fn part_of(image: &[u8], address: usize, refusal: u8, bits: usize) -> &[u8]
+    requires { refusal ≡ 0 → (8 * address + bits ≤ 8 * length image.now) × (length image.now ≤ image_limit) }
+    ensures { result.now ≡ part_of image.now address refusal bits }
+{
+    if refusal == 0 {
+        &image[address..address + bits.div_ceil(8)]
+    } else {
+        &image[0..0]
+    }
+}
+
+// The same, by its walk.
+pub fn part_walked(image: &[u8], address: usize, walked: Result<Extent, Refusal>) -> &[u8]
     requires { IfOk walked (λ extent. (8 * address + extent.bits ≤ 8 * length image.now) × (length image.now ≤ image_limit)) }
     ensures { result.now ≡ part_of image.now address (walk_answer walked).refusal (walk_answer walked).bits }
 {
     match walked {
-        Ok(extent) => &image[address..address + extent.bits.div_ceil(8)],
+        Ok(extent) => part_of(image, address, 0, extent.bits),
         Err(_) => &image[0..0],
     }
 }
@@ -87,5 +100,5 @@ pub fn part_of(image: &[u8], address: usize, walked: Result<Extent, Refusal>) ->
 pub fn phrase(image: &[u8], address: usize) -> &[u8]
     ensures { result.now ≡ phrase_of pitch_width image.now address }
 {
-    part_of(image, address, walk(image, address))
+    part_walked(image, address, walk(image, address))
 }
