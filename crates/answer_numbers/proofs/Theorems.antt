@@ -6,7 +6,8 @@ use mathlib.Core.List.{List, []}
 use Prim.Native.Nat.{ℕ, ◌+◌, ◌/◌}
 use lib.Dec.{eqb}
 use lib.ListN.{take, drop}
-use Rattle.rom.specs.Phrases.{Walked, walk_of, part_of, phrase_of}
+use Rattle.rom.specs.Phrases.{walk_of, part_of, phrase_of}
+use Rattle.rom.specs.Phrases.{Walked}
 use Rattle.rates.specs.Walks.{rated_walk_of, rated_phrase_of}
 use Rattle.answer_numbers.specs.Answers.{part_offset, part_length}
 use Rattle.answer_numbers.specs.Laws.{PartIs, RatedPartIs}

@@ -1,8 +1,8 @@
 -- Frames, bits and phrases as the numbers that a C caller gets.
 use Rattle.std.specs.Prelude.{Option, List, [], ◌∷◌, ◌++◌, ℕ, ◌+◌, ◌/◌}
 use Rattle.base.specs.Refusals.{unless_fault}
-use Rattle.base.specs.declared.refusal.Shortfall.{Shortfall}
 use Rattle.rom.specs.Frames.{numbers_of}
+use Rattle.base.specs.declared.refusal.Shortfall.{Shortfall}
 use Rattle.rom.specs.Phrases.{Walked}
 use Rattle.rom.specs.declared.frames.Frame.{Frame}
 use Rattle.reports.specs.declared.Details.{Details}

@@ -1,12 +1,11 @@
 // A frame, and what is told of bits with it.
 ghost use Rattle.std.specs.Prelude.{◌≡◌, [], ◌∷◌, ◌++◌};
-ghost use Rattle.rom.specs.Reader.{taken_answer};
 ghost use Rattle.rates.specs.Walks.{rated_taken_answer};
-ghost use Rattle.answer_numbers.specs.Answers.{step_bits, frame_bits};
+ghost use Rattle.answer_numbers.specs.Answers.{frame_bytes, step_bits, frame_bits};
 
-use base::refusal::Refusal;
+use base::refusal::{Refusal, Shortfall};
 use reports::Details;
-use rom::frames::Numbers;
+use rom::frames::{Numbers, numbers};
 use rom::reader::Taken;
 
 // The numbers of a frame, and its rate.
@@ -40,18 +39,11 @@ pub fn step_bits(details: Details) -> [usize; 4]
     ]
 }
 
-// A frame's bits, of either device.
-pub fn frame_bits(taken: &Result<Taken, Refusal>) -> [usize; 3]
-    ensures plain { result ≡ frame_bits (taken_answer taken.now).bits (taken_answer taken.now).short }
-    ensures rated { result ≡ frame_bits (rated_taken_answer taken.now).bits (rated_taken_answer taken.now).short }
+// A frame's bits.
+pub fn frame_bits(bits: usize, short: Shortfall) -> [usize; 3]
+    ensures { result ≡ frame_bits bits short }
 {
-    match taken {
-        Ok(taken) => [taken.bits, 0, 0],
-        Err(refusal) => {
-            let short = refusal.shortfall();
-            [0, short.begun, short.missing]
-        }
-    }
+    [bits, short.begun, short.missing]
 }
 
 // The bits of a frame taken, and with 10 how short the image is.

@@ -7,8 +7,8 @@ use base::refusal::Refusal;
 use rom::phrases::Extent;
 
 // The numbers of a walk from a byte address.
-pub fn walk_numbers(address: usize, walked: &Result<Extent, Refusal>) -> [usize; 8]
-    ensures { result ≡ walk_numbers address (walk_answer walked.now) }
+pub fn walk_numbers(address: usize, walked: Result<Extent, Refusal>) -> [usize; 8]
+    ensures { result ≡ walk_numbers address (walk_answer walked) }
 {
     match walked {
         Ok(extent) => [

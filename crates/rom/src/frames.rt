@@ -4,8 +4,6 @@ ghost use Rattle.rom.specs.Frames.{pitch_width, is_stop, numbers_of};
 
 use std::marker::Model;
 
-use std::marker::Model;
-
 // The width of a device's pitch field: at most 8, so that a pitch index is a byte.
 #[derive(Clone, Copy, Debug, PartialEq, Eq)]
 pub struct PitchWidth {
@@ -34,40 +32,6 @@ impl PitchWidth {
         ensures { result ≡ bits }
     {
         PitchWidth { bits }
-    }
-
-    pub fn bits(self) -> usize
-        ensures value { result ≡ self }
-        ensures upper_bound { result ≤ 8 }
-    {
-        self.bits
-    }
-}
-
-// The width of a device's pitch field: at most 8, so that a pitch index is a byte.
-#[derive(Clone, Copy, Debug, PartialEq, Eq)]
-pub struct PitchWidth {
-    bits: usize,
-}
-
-impl Model for PitchWidth {
-    ghost use Rattle.std.specs.Prelude.{ℕ, ◌≤◌};
-
-    ghost Value = { ℕ };
-
-    ghost view = { λ w. w.bits };
-
-    ghost invariant = { λ w. w.bits ≤ 8 };
-
-    ghost inverse = { λ n. record { bits = n } };
-}
-
-impl PitchWidth {
-    // Of the TMS5220 and TMS5200.
-    pub fn tms5220() -> PitchWidth
-        ensures { result ≡ pitch_width }
-    {
-        PitchWidth { bits: PITCH_BITS }
     }
 
     pub fn bits(self) -> usize

@@ -54,7 +54,10 @@ pub fn walk_from<F: FrameForm>(image: &[u8], start: usize, form: F) -> Result<Ex
         let first = at + prefix;
         let head = head_of(narrow_at(image, first), pitch);
         let window = wide_at(image, first);
-        let (frame, next) = frame_in(head, window, at, first, 8 * image.len(), pitch)?;
+        let answer = frame_in(head, window, at, first, 8 * image.len(), pitch);
+        let Ok((frame, next)) = answer else {
+            return Err(Refusal::NoPhrase(answer.unwrap_err()));
+        };
         at = next;
         count += 1;
         skipped += form.skipped(bits).count();

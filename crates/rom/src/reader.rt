@@ -78,8 +78,8 @@ fn frame_of(kind: Kind, head: Head, window: u64, pitch_bits: PitchWidth) -> Fram
 }
 
 // The frame at bit `at` with its head and its wide window, and the bit after it, where the slice has `end` bits; with its prefix it
-// begins at bit `begun`. The head is a number of its own so that a caller which asks for no K, as the walk, costs no more than the head;
-// out of line it would cost the walk five times as much.
+// begins at bit `begun`. The head is a number of its own so that a caller which asks for no K, as the walk, costs no more than the head: taken
+// into each caller, it leaves out what that one does not ask for.
 #[inline(always)]
 pub fn frame_in(
     head: Head,
