@@ -44,12 +44,12 @@ read_of c =
 -- what the answers of the three operations say: refused, the given chip is handed back
 abbrev pub look_answer : Chip → Result ℕ Refusal → ByteRead
 look_answer c (Ok byte) = record { chip = c; refusal = TAKEN; byte = byte }
-look_answer c (Err r) = not_looked c (number_of r)
+look_answer c (Err r) = record { chip = c; refusal = number_of r; byte = 0 }
 
 abbrev pub acknowledge_answer : Chip → Result Chip Refusal → Acknowledged
 acknowledge_answer c (Ok next) = record { chip = next; refusal = TAKEN }
-acknowledge_answer c (Err r) = not_acknowledged c (number_of r)
+acknowledge_answer c (Err r) = record { chip = c; refusal = number_of r }
 
 abbrev pub read_answer : Chip → Result BusRead Refusal → ByteRead
 read_answer c (Ok r) = record { chip = r.chip; refusal = TAKEN; byte = r.byte }
-read_answer c (Err r) = not_looked c (number_of r)
+read_answer c (Err r) = record { chip = c; refusal = number_of r; byte = 0 }

@@ -42,4 +42,4 @@ buffer_of image voice c out =
 -- what an answer of the operation says: refused, the given chip is handed back
 abbrev pub run_answer : Chip → Result Chip Refusal → Ran
 run_answer c (Ok next) = record { chip = next; refusal = TAKEN }
-run_answer c (Err r) = not_run c (number_of r)
+run_answer c (Err r) = record { chip = c; refusal = number_of r }

@@ -36,4 +36,4 @@ step_of image voice c = unless_fault (step_fault image voice c) (not_stepped c) 
 -- what an answer of the operation says: refused, the given chip is handed back, with the sample 0 and no report
 abbrev pub step_answer : Chip → Result SampleStep Refusal → Stepped
 step_answer c (Ok s) = record { chip = s.chip; refusal = TAKEN; sample = s.sample; report = s.report; details = s.details }
-step_answer c (Err r) = not_stepped c (number_of r)
+step_answer c (Err r) = record { chip = c; refusal = number_of r; sample = pos 0; report = NoReport; details = no_details }

@@ -39,4 +39,4 @@ write_of image c b =
 -- what an answer of the operation says: refused, the given chip is handed back
 abbrev pub write_answer : Chip → Result Chip Refusal → Written
 write_answer c (Ok next) = record { chip = next; refusal = TAKEN }
-write_answer c (Err r) = not_written c (number_of r)
+write_answer c (Err r) = record { chip = c; refusal = number_of r }

@@ -100,4 +100,4 @@ rated_answer F (cut h) = no_rated NO_PHRASE h
 -- what an answer of the operation says
 abbrev pub rated_taken_answer : Result Taken Refusal → RatedTaken
 rated_taken_answer (Ok t) = record { refusal = TAKEN; rate = t.rate; frame = Some t.frame; bits = t.bits; short = no_shortfall }
-rated_taken_answer (Err r) = no_rated (number_of r) (shortfall_of r)
+rated_taken_answer (Err r) = record { refusal = number_of r; rate = 0; frame = None; bits = 0; short = shortfall_of r }

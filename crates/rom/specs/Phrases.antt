@@ -89,7 +89,8 @@ walk_of P s a = unless_fault (image_fault s (leb (length s) a)) walk_refused (wa
 abbrev pub walk_answer : Result Extent Refusal → Walked
 walk_answer (Ok e) =
     record { refusal = TAKEN; bits = e.bits; frames = e.frames; intervals = e.intervals; samples = e.samples; short = no_shortfall }
-walk_answer (Err r) = walk_refused_with (number_of r) (shortfall_of r)
+walk_answer (Err r) =
+    record { refusal = number_of r; bits = 0; frames = frames 0; intervals = intervals 0; samples = samples 0; short = shortfall_of r }
 
 -- the part of the image from a on that holds `bits` bits, through the byte with the last of them, empty where the walk is refused
 abbrev pub part_of : List ℕ → ℕ → ℕ → ℕ → List ℕ

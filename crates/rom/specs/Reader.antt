@@ -121,4 +121,4 @@ frame_taken_of P s bit =
 -- what an answer of the operation says
 abbrev pub taken_answer : Result Taken Refusal → FrameTaken
 taken_answer (Ok t) = record { refusal = TAKEN; frame = Some t.frame; bits = t.bits; short = no_shortfall }
-taken_answer (Err r) = no_frame (number_of r) (shortfall_of r)
+taken_answer (Err r) = record { refusal = number_of r; frame = None; bits = 0; short = shortfall_of r }
