@@ -1,6 +1,6 @@
 // What each record does, and its answers.
 ghost use Rattle.std.specs.Prelude.{◌≤◌, ◌<◌};
-ghost use Rattle.trace_script.specs.Script.{limit};
+ghost use Rattle.trace_script.specs.Script.{limit, run_limit};
 
 use base::bytes::byte_at;
 use base::refusal::Refusal;
@@ -97,11 +97,18 @@ impl<'a> Player<'a> {
         self.hand_back(answer.map(|step| step.chip), lines);
     }
 
-    // `U`: a run.
     fn run(&mut self, values: &mut [i16], lines: &mut Lines) {
         let answer = self.chip.run(self.image, self.voice, values);
         lines.run_line(&answer, values);
         self.hand_back(answer, lines);
+    }
+
+    // `U`: a run, into a buffer of its own. In `play` each record would pay for the buffer.
+    fn run_of(&mut self, length: usize, lines: &mut Lines)
+        requires { length ≤ run_limit }
+    {
+        let mut values = [UNTOUCHED; RUN_LIMIT];
+        self.run(&mut values[..length], lines);
     }
 
     // Plays the record that begins with byte `at`. A record has been seen to be whole before.
@@ -126,10 +133,7 @@ impl<'a> Player<'a> {
             b'L' => self.look(lines),
             b'K' => self.answer('K', self.chip.acknowledge(), lines),
             b'T' => self.step(lines),
-            b'U' => {
-                let mut values = [UNTOUCHED; RUN_LIMIT];
-                self.run(&mut values[..run_length(script, body)], lines);
-            }
+            b'U' => self.run_of(run_length(script, body), lines),
             b'G' => lines.rated_frame_line(
                 self.image,
                 le32(script, body + 1),
