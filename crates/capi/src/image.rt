@@ -23,15 +23,26 @@ pub extern "C" fn tms_voice_check(voice: &[u8]) -> u8
     number_of(&voice_check(voice))
 }
 
-// Tells a frame taken: its numbers, its bits, and the call's number.
+// Tells a frame taken: its numbers, its bits, and the call's number. Out of line, and with the cases apart, the answer is read where it stands
+// and tested once: without that a frame taken costs a tenth more.
+#[inline(never)]
 fn tell_frame(answer: Result<Taken, Refusal>, frame: &mut [u8; 14], extent: &mut [usize; 3]) -> u8
     ensures value { result ≡ (rated_taken_answer answer).refusal }
     ensures frame_after { frame.new ≡ frame_bytes (rated_taken_answer answer).frame (rated_taken_answer answer).rate }
     ensures extent_after { extent.new ≡ frame_bits (rated_taken_answer answer).bits (rated_taken_answer answer).short }
 {
-    *frame = taken_frame(answer);
-    *extent = taken_bits(answer);
-    number_of(&answer)
+    match answer {
+        Ok(_) => {
+            *frame = taken_frame(answer);
+            *extent = taken_bits(answer);
+            0
+        }
+        Err(refusal) => {
+            *frame = taken_frame(answer);
+            *extent = taken_bits(answer);
+            refusal.number()
+        }
+    }
 }
 
 // The frame at a bit, on the TMS5220.

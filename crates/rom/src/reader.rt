@@ -100,7 +100,9 @@ pub fn frame_in(
     Ok((frame_of(kind, head, window, pitch_bits), next))
 }
 
-// The frame at bit `at`, which with its prefix begins at bit `begun`, and the bit after it.
+// The frame at bit `at`, which with its prefix begins at bit `begun`, and the bit after it. Taken into each caller, as what it hands back through
+// memory costs a frame taken a quarter more.
+#[inline(always)]
 pub fn frame_from(
     s: &[u8],
     begun: usize,
@@ -122,11 +124,12 @@ pub fn frame_at(s: &[u8], at: usize, pitch_bits: PitchWidth) -> Result<(Frame, u
     frame_from(s, at, at, pitch_bits)
 }
 
-// A frame taken at a bit: the value of the rate bits before it, 0 where the device has none, the frame, and the bits of both.
+// A frame taken at a bit: the frame, the value of the rate bits before it, 0 where the device has none, and the bits of both. The frame
+// stands first, as in what the reader hands back, so that it is copied as it lies there.
 #[derive(Clone, Copy, Debug, PartialEq, Eq)]
 pub struct Taken {
-    pub rate: u8,
     pub frame: Frame,
+    pub rate: u8,
     pub bits: usize,
 }
 
@@ -137,7 +140,10 @@ pub fn taken_from<F: FrameForm>(image: &[u8], bit: usize, form: F) -> Result<Tak
 {
     let prefix = form.prefix();
     let rate = field_at(image, bit, prefix);
-    let (frame, next) = frame_from(image, bit, bit + prefix, form.pitch())?;
+    let answer = frame_from(image, bit, bit + prefix, form.pitch());
+    let Ok((frame, next)) = answer else {
+        return Err(Refusal::NoPhrase(answer.unwrap_err()));
+    };
     Ok(Taken {
         rate,
         frame,
