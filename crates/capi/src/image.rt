@@ -8,7 +8,7 @@ ghost use Rattle.voice.specs.Check.{voice_fault, version};
 ghost use Rattle.answer_numbers.specs.Answers.{frame_bytes, frame_bits, walk_numbers};
 
 use answer_numbers::frames::{taken_bits, taken_frame};
-use answer_numbers::walks::walk_numbers;
+use answer_numbers::walks::walked_numbers;
 use base::refusal::{Refusal, number_of};
 use rates::rate::FrameRate;
 use rom::phrases::{Extent, walk};
@@ -81,7 +81,7 @@ fn tell_walk(address: usize, answer: Result<Extent, Refusal>, phrase: &mut [usiz
     ensures value { result ≡ (walk_answer answer).refusal }
     ensures phrase_after { phrase.new ≡ walk_numbers address (walk_answer answer) }
 {
-    *phrase = walk_numbers(address, answer);
+    *phrase = walked_numbers(address, answer);
     number_of(&answer)
 }
 

@@ -3,10 +3,11 @@ ghost use Rattle.std.specs.Prelude.{◌≤◌, ◌<◌};
 ghost use Rattle.trace_script.specs.Script.{limit, run_limit};
 
 use base::bytes::byte_at;
-use base::refusal::Refusal;
+use base::refusal::{Refusal, number_of};
 use chip::state::Chip;
 use fifo::BitOrder;
 use rates::rate::FrameRate;
+use reports::{Details, Report};
 use std::array;
 use trace_lines::lines::{Lines, UNTOUCHED};
 use trace_script::{RUN_LIMIT, le_i64, le32, part, run_length};
@@ -73,33 +74,44 @@ impl<'a> Player<'a> {
 
     // `P`, `Q`, `O`, `W` and `K`: the number alone, and the chip.
     fn answer(&mut self, letter: char, answer: Result<Chip, Refusal>, lines: &mut Lines) {
-        lines.refusal_line(letter, &answer);
+        lines.refusal_line(letter, number_of(&answer));
         self.hand_back(answer, lines);
     }
 
     // `R`: a byte read.
     fn read(&mut self, lines: &mut Lines) {
         let answer = self.chip.read();
-        lines.read_line('R', answer.map(|read| read.byte));
+        lines.read_line('R', number_of(&answer), answer.map_or(0, |read| read.byte));
         self.hand_back(answer.map(|read| read.chip), lines);
     }
 
     // `L`: a look.
     fn look(&mut self, lines: &mut Lines) {
-        lines.read_line('L', self.chip.look());
+        let answer = self.chip.look();
+        lines.read_line('L', number_of(&answer), answer.unwrap_or(0));
         self.hand_back(Ok(self.chip), lines);
     }
 
     // `T`: a sample step.
     fn step(&mut self, lines: &mut Lines) {
         let answer = self.chip.step(self.image, self.voice);
-        lines.step_line(answer.map(|step| (step.sample, step.report, step.details)));
+        let (sample, report, details) = match answer {
+            Ok(step) => (step.sample, step.report, step.details),
+            Err(_) => (0, Report::Nothing, Details::none()),
+        };
+        lines.step_line(
+            number_of(&answer),
+            sample,
+            report.number(),
+            report.frame(),
+            details,
+        );
         self.hand_back(answer.map(|step| step.chip), lines);
     }
 
     fn run(&mut self, values: &mut [i16], lines: &mut Lines) {
         let answer = self.chip.run(self.image, self.voice, values);
-        lines.run_line(&answer, values);
+        lines.run_line(number_of(&answer), values);
         self.hand_back(answer, lines);
     }
 

@@ -4,8 +4,8 @@ ghost use Rattle.std.specs.Prelude.{◌≡◌, ◌≤◌, [], length};
 use arrayvec::ArrayString;
 use base::refusal::{Refusal, Shortfall, number_of};
 use rates::rate::FrameRate;
-use reports::{Details, Report};
-use rom::frames::numbers;
+use reports::Details;
+use rom::frames::{Frame, numbers};
 use rom::phrases::{Extent, phrase, walk};
 use rom::reader::{Taken, frame_taken};
 use std::fmt::{Display, Write};
@@ -71,8 +71,8 @@ impl Lines {
     }
 
     // A letter and a refusal number, with which the answer of a call begins.
-    fn head<T>(&mut self, letter: char, answer: &Result<T, Refusal>) {
-        self.put(format_args!("{letter} {}", number_of(answer)));
+    fn head(&mut self, letter: char, refusal: u8) {
+        self.put(format_args!("{letter} {refusal}"));
     }
 
     // Where a cut frame begins, and the bits that it lacks, with which a line ends.
@@ -89,15 +89,15 @@ impl Lines {
         self.put(format_args!("I {size}\n"));
     }
 
-    // `V`, `P`, `Q`, `O`, `W` and `K`: a letter and a refusal number alone.
-    pub fn refusal_line<T>(&mut self, letter: char, answer: &Result<T, Refusal>) {
-        self.head(letter, answer);
+    // `V`, `P`, `Q`, `O`, `W` and `K`: a letter and a refusal number alone. A number, here as in the lines below, for a line says any.
+    pub fn refusal_line(&mut self, letter: char, refusal: u8) {
+        self.head(letter, refusal);
         self.put('\n');
     }
 
     // A frame taken: its bits and its thirteen numbers.
     fn taken(&mut self, letter: char, answer: Result<Taken, Refusal>) {
-        self.head(letter, &answer);
+        self.head(letter, number_of(&answer));
         self.put(format_args!(" {}", answer.map_or(0, |taken| taken.bits)));
         self.put_each(&numbers(answer.ok().map(|taken| taken.frame)));
     }
@@ -119,7 +119,7 @@ impl Lines {
 
     // A walk: its bits, frames, intervals and samples, and the length of its part with the sum of the part's bytes.
     fn walked_line(&mut self, letter: char, answer: Result<Extent, Refusal>, part: &[u8]) {
-        self.head(letter, &answer);
+        self.head(letter, number_of(&answer));
         match answer {
             Ok(extent) => self.put(format_args!(
                 " {} {} {} {}",
@@ -151,24 +151,30 @@ impl Lines {
     pub fn told_line(&mut self, letter: u8, n: usize, image: &[u8], voice: &[u8]) {
         match letter {
             b'I' => self.image_line(n),
-            b'V' => self.refusal_line('V', &voice_check(voice)),
+            b'V' => self.refusal_line('V', number_of(&voice_check(voice))),
             b'F' => self.frame_line(image, n),
             _ => self.walk_line(image, n),
         }
     }
 
     // `R` and `L`: a byte read, and a look.
-    pub fn read_line(&mut self, letter: char, answer: Result<u8, Refusal>) {
-        self.head(letter, &answer);
-        self.put(format_args!(" {}\n", answer.unwrap_or(0)));
+    pub fn read_line(&mut self, letter: char, refusal: u8, byte: u8) {
+        self.head(letter, refusal);
+        self.put(format_args!(" {byte}\n"));
     }
 
     // `T`: a sample step, with the number of its report, the frame that it reports and what it gives besides.
-    pub fn step_line(&mut self, answer: Result<(i16, Report, Details), Refusal>) {
-        self.head('T', &answer);
-        let (sample, report, details) = answer.unwrap_or((0, Report::Nothing, Details::none()));
-        self.put(format_args!(" {sample} {}", report.number()));
-        self.put_each(&numbers(report.frame()));
+    pub fn step_line(
+        &mut self,
+        refusal: u8,
+        sample: i16,
+        report: u8,
+        found: Option<Frame>,
+        details: Details,
+    ) {
+        self.head('T', refusal);
+        self.put(format_args!(" {sample} {report}"));
+        self.put_each(&numbers(found));
         self.put(format_args!(
             " {} {} {} {} {}\n",
             details.rate, details.begun, details.used_up, details.missing, details.thrown
@@ -176,9 +182,9 @@ impl Lines {
     }
 
     // `U`: a run into a buffer. Refused, it has no sample, and the line says whether an element was touched.
-    pub fn run_line<T>(&mut self, answer: &Result<T, Refusal>, values: &[i16]) {
-        self.head('U', answer);
-        if answer.is_ok() {
+    pub fn run_line(&mut self, refusal: u8, values: &[i16]) {
+        self.head('U', refusal);
+        if refusal == 0 {
             self.put(format_args!(" {}", values.len()));
             self.put_each(values);
         } else {
