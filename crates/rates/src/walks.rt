@@ -44,6 +44,7 @@ pub fn phrase(image: &[u8], address: usize, rate: FrameRate) -> &[u8]
 }
 
 // Operation: the frame at a bit of an image, told v; and its 13 numbers are those of the definition's frame.
+#[tactic(auto, using(crate::proofs::Answers::take_answered))]
 pub fn frame_taken(image: &[u8], bit: usize, v: u8) -> Result<Taken, Refusal>
     ensures value { rated_taken_answer result ≡ rated_taken_of pitch_width v image.now bit }
     ensures frame_numbers { numbers_of (rated_taken_answer result).frame ≡ numbers_of (rated_taken_of pitch_width v image.now bit).frame }
