@@ -36,7 +36,8 @@ write_of image c b =
     unless_fault (write_fault image c b) (not_written c)
     (record { chip = after_byte c (accepted image c.control b); refusal = TAKEN })
 
--- what an answer of the operation says: refused, the given chip is handed back
+-- what an answer of the operation says: refused, the given chip is handed back. The record is written out, here and in the other
+-- operations: by `not_written`, `write` would promise no more than what that says
 abbrev pub write_answer : Chip → Result Chip Refusal → Written
 write_answer c (Ok next) = record { chip = next; refusal = TAKEN }
 write_answer c (Err r) = record { chip = c; refusal = number_of r }

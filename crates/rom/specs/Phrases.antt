@@ -85,7 +85,8 @@ walked_over P s start fs =
 unfoldable pub walk_of : ℕ → List ℕ → ℕ → Walked
 walk_of P s a = unless_fault (image_fault s (leb (length s) a)) walk_refused (walked_over P s (8 * a) (frames_at P s a))
 
--- what an answer of the operation says
+-- what an answer of the operation says. Refused, the record is written out, here and for a frame taken: by `walk_refused_with`, `walk` would
+-- promise no more than what that says
 abbrev pub walk_answer : Result Extent Refusal → Walked
 walk_answer (Ok e) =
     record { refusal = TAKEN; bits = e.bits; frames = e.frames; intervals = e.intervals; samples = e.samples; short = no_shortfall }

@@ -142,7 +142,7 @@ pub fn taken_from<F: FrameForm>(image: &[u8], bit: usize, form: F) -> Result<Tak
     let rate = field_at(image, bit, prefix);
     let answer = frame_from(image, bit, bit + prefix, form.pitch());
     let Ok((frame, next)) = answer else {
-        return Err(Refusal::NoPhrase(answer.unwrap_err()));
+        return Err(Refusal::from(answer.unwrap_err()));
     };
     Ok(Taken {
         rate,
